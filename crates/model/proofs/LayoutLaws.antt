@@ -1,0 +1,150 @@
+-- What the instance and the schedule made of the arrays are, by index, and the bounds of a well-formed instance's arrays.
+use Prim.Native.Nat.{ℕ, _+_, _≤_, _<_}
+use mathlib.Core.Bool.{Bool, true, false, cond, not}
+use mathlib.Core.Path.{_≡_, refl, ap}
+use native.Mathlib.Omega.{arith}
+use lib.Dec.{ltb, leb}
+use Rattle.rules.specs.Model.{Colour, blue, red, sameColour, Instance, Schedule, Task, fileAt, fileCount, taskAt, taskCount, limitOf, sideOf, timeOn, runAt, moveAt, sizeAt, moveTimeAt, finishAt, moved}
+use Rattle.rules.specs.Residency.{never, closedHold, openHold, holdBy, holdOf}
+use Rattle.rules.specs.Limits.{processorCounts, runTimes}
+use Rattle.rules.specs.Promises.{In, WellFormed}
+use Rattle.rules.proofs.CountLaws.{length-listBelow, getD-listBelow}
+use Rattle.model.specs.declared.layout.Shape.{Shape}
+use Rattle.model.specs.Layout.{Job, Plan, taskFrom, fileFrom, runFrom, instanceFrom, scheduleFrom, colourBy, JobBounds, Bounds}
+
+time-by : (x : Bool) (a : Task) → timeOn (colourBy x) a ≡ cond x (a .onBlue) (a .onRed)
+time-by true a = refl
+time-by false a = refl
+
+module _ (b : Shape) (J : Job) where
+  pub file-count : fileCount (instanceFrom b J) ≡ b .files
+  unfolding instanceFrom
+  file-count = length-listBelow (b .files) (fileFrom J)
+
+  pub task-count : taskCount (instanceFrom b J) ≡ b .tasks
+  unfolding instanceFrom
+  task-count = length-listBelow (b .tasks) (taskFrom J)
+
+  pub file-at : (k : ℕ) → k < b .files → fileAt (instanceFrom b J) k ≡ fileFrom J k
+  unfolding instanceFrom
+  file-at k h = getD-listBelow (b .files) (fileFrom J) k _ h
+
+  pub task-at : (i : ℕ) → i < b .tasks → taskAt (instanceFrom b J) i ≡ taskFrom J i
+  unfolding instanceFrom
+  task-at i h = getD-listBelow (b .tasks) (taskFrom J) i _ h
+
+  pub limit-of : (c : Bool) → limitOf (instanceFrom b J) (colourBy c) ≡ cond c (b .board .blue .limit) (b .board .red .limit)
+  unfolding instanceFrom
+  limit-of true = refl
+  limit-of false = refl
+
+  pub processors-of : (c : Bool) → sideOf (instanceFrom b J) (colourBy c) .processors ≡ cond c (b .board .blue .processors) (b .board .red .processors)
+  unfolding instanceFrom
+  processors-of true = refl
+  processors-of false = refl
+
+  pub size-at : (k : ℕ) → k < b .files → sizeAt (instanceFrom b J) k ≡ J .size k
+  size-at k h = ap (λ f. f .size) (file-at k h)
+
+  pub move-time-at : (k : ℕ) → k < b .files → moveTimeAt (instanceFrom b J) k ≡ J .moveTime k
+  move-time-at k h = ap (λ f. f .moveTime) (file-at k h)
+
+  pub maker-at : (k : ℕ) → k < b .files → fileAt (instanceFrom b J) k .maker ≡ J .maker k
+  maker-at k h = ap (λ f. f .maker) (file-at k h)
+
+  pub reader-at : (k : ℕ) → k < b .files → fileAt (instanceFrom b J) k .reader ≡ J .reader k
+  reader-at k h = ap (λ f. f .reader) (file-at k h)
+
+module _ (b : Shape) (L : Plan) where
+  pub run-at : (i : ℕ) → i < b .tasks → runAt (scheduleFrom b L) i ≡ runFrom L i
+  unfolding scheduleFrom
+  run-at i h = getD-listBelow (b .tasks) (runFrom L) i _ h
+
+  pub move-at : (k : ℕ) → k < b .files → moveAt (scheduleFrom b L) k ≡ L .moveStart k
+  unfolding scheduleFrom
+  move-at k h = getD-listBelow (b .files) (λ k. L .moveStart k) k 0 h
+
+module _ {b : Shape} {J : Job} {L : Plan} (f : Bounds b J L) where
+  abbrev I : Instance
+  I = instanceFrom b J
+
+  abbrev P : Schedule
+  P = scheduleFrom b L
+
+  abbrev pub isBlue : ℕ → Bool
+  isBlue i = leb (L .processor i) (b .board .blue .processors)
+
+  pub finish-at : {i : ℕ} → i < b .tasks → {s time : ℕ} {x : Bool} → s ≡ L .start i → x ≡ isBlue i → time ≡ cond x (J .onBlue i) (J .onRed i)
+      → s + time ≡ finishAt I P i
+  finish-at {i} h p q e = rw (run-at b L i h, task-at b J i h, processors-of b J true, time-by, p, e, q)
+
+  module _ {k : ℕ} (h : k < b .files) where
+    abbrev m : ℕ
+    m = J .maker k
+
+    abbrev d : ℕ
+    d = J .reader k
+
+    pub moved-at : (s : Bool) → s ≡ sameColour (colourBy (isBlue m)) (colourBy (isBlue d)) → not s ≡ moved I P k
+    moved-at s e = rw (e, file-at b J k h, run-at b L m (f .job .maker k h), run-at b L d (f .job .reader k h), processors-of b J true)
+
+    hold-at : (c s e : Bool) (released : ℕ) → s ≡ sameColour (colourBy (isBlue m)) (colourBy (isBlue d)) → e ≡ sameColour (colourBy (isBlue m)) (colourBy c)
+        → released ≡ finishAt I P d →
+        cond (ltb 0 (L .processor m)) (cond (ltb 0 (L .processor d))
+        (closedHold (not s) e (L .start m) (L .moveStart k) (L .moveStart k + J .moveTime k) released)
+        (openHold e (L .start m))) never ≡ holdOf I P (colourBy c) k
+    unfolding holdBy
+    hold-at c s e released p q r =
+        rw (p, q, r, file-at b J k h, move-at b L k h, run-at b L m (f .job .maker k h), run-at b L d (f .job .reader k h), processors-of b J true)
+
+    -- the hold, from what the accessors read
+    module _ {i j p q begun departs takes released : ℕ} {from to s e : Bool} (c : Bool)
+        (maker : i ≡ m) (reader : j ≡ d) (from-is : from ≡ isBlue i) (to-is : to ≡ isBlue j)
+        (moves : s ≡ sameColour (colourBy from) (colourBy to)) (here : e ≡ sameColour (colourBy from) (colourBy c))
+        (by : p ≡ L .processor i) (for : q ≡ L .processor j) (start : begun ≡ L .start i)
+        (leaves : departs ≡ L .moveStart k) (time : takes ≡ J .moveTime k) (ends : released ≡ finishAt I P j) where
+      pub hold-from : cond (ltb 0 p) (cond (ltb 0 q) (closedHold (not s) e begun departs (departs + takes) released) (openHold e begun)) never ≡ holdOf I P (colourBy c) k
+      hold-from =
+          rw (by, for, start, leaves, time, maker, reader)
+          (hold-at c s e released (rw (moves, from-is, to-is, maker, reader)) (rw (here, from-is, maker)) (rw (ends, reader)))
+
+-- the arrays of a well-formed instance are in their bounds
+module _ (b : Shape) (J : Job) (w : WellFormed (instanceFrom b J)) where
+  abbrev Job-I : Instance
+  Job-I = instanceFrom b J
+
+  task-in : {i : ℕ} → i < b .tasks → i < taskCount Job-I
+  task-in h = omega (arith, task-count b J)
+
+  file-in : {k : ℕ} → k < b .files → k < fileCount Job-I
+  file-in h = omega (arith, file-count b J)
+
+  blue-in : In processorCounts (b .board .blue .processors)
+  unfolding instanceFrom
+  blue-in = w .processors blue
+
+  red-in : In processorCounts (b .board .red .processors)
+  unfolding instanceFrom
+  red-in = w .processors red
+
+  blue-time : (i : ℕ) → i < b .tasks → J .onBlue i ≤ runTimes .most
+  blue-time i h = omega (arith, w .times blue i (task-in h) .most, ap (λ a. a .onBlue) (task-at b J i h))
+
+  red-time : (i : ℕ) → i < b .tasks → J .onRed i ≤ runTimes .most
+  red-time i h = omega (arith, w .times red i (task-in h) .most, ap (λ a. a .onRed) (task-at b J i h))
+
+  pub job-bounds : JobBounds b J
+  job-bounds = record {
+    tasks = omega (arith, task-count b J, w .tasks .most);
+    files = omega (arith, file-count b J, w .files);
+    blueProcessors = blue-in;
+    redProcessors = red-in;
+    blueLimit = omega (arith, limit-of b J true, w .limits blue .most);
+    redLimit = omega (arith, limit-of b J false, w .limits red .most);
+    onBlue = blue-time;
+    onRed = red-time;
+    maker = λ k h. omega (arith, w .ordered k (file-in h), w .exists k (file-in h), maker-at b J k h, reader-at b J k h, task-count b J);
+    reader = λ k h. omega (arith, w .exists k (file-in h), reader-at b J k h, task-count b J);
+    size = λ k h. omega (arith, w .sizes k (file-in h) .most, size-at b J k h);
+    moveTime = λ k h. omega (arith, w .moveTimes k (file-in h) .most, move-time-at b J k h);
+  }

@@ -1,0 +1,10 @@
+-- The laws that the proofs of this crate, and of those above it, cite.
+
+-- one turn of a loop that sums, or takes the greatest
+pub mod StepLaws
+-- the cases of the small functions on holds and colours
+pub mod HoldCases
+-- the instance and the schedule of the arrays, by index
+pub mod LayoutLaws
+-- the loops over the files
+pub mod ResidencyLoops

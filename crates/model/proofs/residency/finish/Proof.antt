@@ -1,0 +1,33 @@
+-- `finish` meets its contract.
+use native.Mathlib.Omega.{arith}
+use Rattle.model.proofs.LayoutLaws.{finish-at}
+use borrow.Author.Needs.{needs}
+use Rattle.model.proofs.residency.finish.Statement.{statement}
+use Rattle.model.proofs.residency.finish.Tie as tie
+
+on-blue-requires : tie.Need-on-blue-requires
+on-blue-requires c κs = search needs
+
+run-time-requires : tie.Need-run-time-requires
+run-time-requires c κs = search needs
+
+start-requires : tie.Need-start-requires
+start-requires c κs = search needs
+
+add-result : tie.Need-add-result
+add-result c =
+    let s = c .before .before .before in
+    let i = s .args .i in
+    let h = s .pre .1 in
+    omega (arith, s .pre .0 .plan .start i h, s .pre .0 .job .onBlue i h, s .pre .0 .job .onRed i h, c .before .run-time .ensures .1)
+
+returns : tie.Need-returns
+returns c =
+    let s = c .before .before .before in
+    let i = s .args .i in
+    let h = s .pre .1 in
+    (finish-at (s .pre .0) h (c .start .ensures) (c .before .before .on-blue .ensures) (c .before .run-time .ensures .0), omega (arith, s .pre .0 .plan .start i h, s .pre .0 .job .onBlue i h, s .pre .0 .job .onRed i h, c .before .run-time .ensures .1))
+
+pub finish-spec : {M : Type 1} → statement M
+finish-spec =
+    tie.close (tie.spec on-blue-requires run-time-requires start-requires add-result returns)

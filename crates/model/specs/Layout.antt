@@ -1,0 +1,115 @@
+-- The rules' instance and schedule, made of a shape and two arrays, and what the code asks of the arrays.
+use Prim.Native.Nat.{ℕ, _+_, _*_, _≤_, _<_}
+use mathlib.Core.Bool.{Bool, cond}
+use mathlib.Core.List.{List}
+use lib.ListN.{getD}
+use Rattle.rules.specs.Count.{listBelow}
+use Rattle.rules.specs.Limits.{maxTasks, maxFiles, processorCounts, memoryLimits, runTimes, moveTimes, fileSizes, ticks}
+use Rattle.rules.specs.Model.{Colour, blue, red, Instance, Schedule, Task, File, Run}
+use Rattle.rules.specs.BoardType.{sideFrom}
+use Rattle.rules.specs.Promises.{In}
+use Rattle.model.specs.declared.layout.Shape.{Shape}
+
+-- ---- what stands where
+
+-- the numbers of each task and each file
+pub record Job : Type 0 where
+  pub onBlue : ℕ → ℕ
+  pub onRed : ℕ → ℕ
+  pub maker : ℕ → ℕ
+  pub reader : ℕ → ℕ
+  pub size : ℕ → ℕ
+  pub moveTime : ℕ → ℕ
+
+abbrev pub jobOf : List ℕ → Job
+jobOf xs = record {
+  onBlue = λ i. getD xs i 0;
+  onRed = λ i. getD xs (maxTasks + i) 0;
+  maker = λ k. getD xs (2 * maxTasks + k) 0;
+  reader = λ k. getD xs (2 * maxTasks + maxFiles + k) 0;
+  size = λ k. getD xs (2 * maxTasks + 2 * maxFiles + k) 0;
+  moveTime = λ k. getD xs (2 * maxTasks + 3 * maxFiles + k) 0;
+}
+
+-- the processor and the start of each task, and the move start of each file
+pub record Plan : Type 0 where
+  pub processor : ℕ → ℕ
+  pub start : ℕ → ℕ
+  pub moveStart : ℕ → ℕ
+
+abbrev pub planOf : List ℕ → Plan
+planOf xs = record {
+  processor = λ i. getD xs i 0;
+  start = λ i. getD xs (maxTasks + i) 0;
+  moveStart = λ k. getD xs (2 * maxTasks + k) 0;
+}
+
+-- ---- the rules' instance and schedule
+
+abbrev pub taskFrom : Job → ℕ → Task
+taskFrom J i = record { onBlue = J .onBlue i; onRed = J .onRed i }
+
+abbrev pub fileFrom : Job → ℕ → File
+fileFrom J k = record {
+  maker = J .maker k;
+  reader = J .reader k;
+  size = J .size k;
+  moveTime = J .moveTime k;
+}
+
+abbrev pub runFrom : Plan → ℕ → Run
+runFrom L i = record { processor = L .processor i; start = L .start i }
+
+unfoldable pub instanceFrom : Shape → Job → Instance
+instanceFrom b J = record {
+  blueSide = sideFrom (b .board .blue);
+  redSide = sideFrom (b .board .red);
+  tasks = listBelow (b .tasks) (taskFrom J);
+  files = listBelow (b .files) (fileFrom J);
+}
+
+unfoldable pub scheduleFrom : Shape → Plan → Schedule
+scheduleFrom b L = record {
+  runs = listBelow (b .tasks) (runFrom L);
+  moves = listBelow (b .files) (λ k. L .moveStart k);
+}
+
+-- the code's colour: blue is `true`
+abbrev pub colourBy : Bool → Colour
+colourBy flag = cond flag blue red
+
+-- ---- what the code asks of the arrays: every number in its range
+
+-- each of the first n numbers is at most m
+abbrev pub Bounded : ℕ → ℕ → (ℕ → ℕ) → Type 0
+Bounded m n f = (k : ℕ) → k < n → f k ≤ m
+
+pub record JobBounds (b : Shape) (J : Job) : Type 0 where
+  pub tasks : b .tasks ≤ maxTasks
+  pub files : b .files ≤ maxFiles
+  pub blueProcessors : In processorCounts (b .board .blue .processors)
+  pub redProcessors : In processorCounts (b .board .red .processors)
+  pub blueLimit : b .board .blue .limit ≤ memoryLimits .most
+  pub redLimit : b .board .red .limit ≤ memoryLimits .most
+  pub onBlue : Bounded (runTimes .most) (b .tasks) (J .onBlue)
+  pub onRed : Bounded (runTimes .most) (b .tasks) (J .onRed)
+  pub maker : (k : ℕ) → k < b .files → J .maker k < b .tasks
+  pub reader : (k : ℕ) → k < b .files → J .reader k < b .tasks
+  pub size : Bounded (fileSizes .most) (b .files) (J .size)
+  pub moveTime : Bounded (moveTimes .most) (b .files) (J .moveTime)
+
+pub record PlanBounds (b : Shape) (L : Plan) : Type 0 where
+  pub start : Bounded (ticks .most) (b .tasks) (L .start)
+  pub moveStart : Bounded (ticks .most) (b .files) (L .moveStart)
+
+pub record Bounds (b : Shape) (J : Job) (L : Plan) : Type 0 where
+  pub job : JobBounds b J
+  pub plan : PlanBounds b L
+
+-- no finish and no end of a move is later
+abbrev pub lastTick : ℕ
+lastTick = ticks .most + runTimes .most + moveTimes .most
+
+-- no total of file sizes is greater
+abbrev pub mostHeld : ℕ
+mostHeld = fileSizes .most * maxFiles

@@ -1,0 +1,3 @@
+-- The rules' instance and schedule, made of the arrays that the code holds.
+pub mod Layout
+pub mod Holds

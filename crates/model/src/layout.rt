@@ -1,0 +1,102 @@
+// Where the numbers of an instance and of a schedule stand: a job array and a plan array, beside a shape of plain numbers.
+ghost use mathlib.Core.Path.{_≡_};
+ghost use mathlib.Core.Bool.{cond};
+ghost use Prim.Native.Nat.{_<_, _≤_, max};
+ghost use lib.Dec.{leb};
+ghost use Rattle.rules.specs.Limits.{maxTasks, maxFiles};
+ghost use Rattle.model.specs.Layout.{jobOf, planOf};
+use super::choice::either;
+use rules::Board;
+
+// The counts of an instance, and its board.
+pub struct Shape {
+    pub tasks: usize,
+    pub files: usize,
+    pub board: Board,
+}
+
+// A job array: the run times on blue and on red of each task; then of each file maker, reader, size and move time.
+pub const JOB: usize = 2 * Board::MAX_TASKS + 4 * Board::MAX_FILES;
+
+pub const ON_RED: usize = Board::MAX_TASKS;
+
+pub const MAKER: usize = ON_RED + Board::MAX_TASKS;
+
+pub const READER: usize = MAKER + Board::MAX_FILES;
+
+pub const SIZE: usize = READER + Board::MAX_FILES;
+
+pub const MOVE_TIME: usize = SIZE + Board::MAX_FILES;
+
+// A plan array: processor (0 if not placed) and start of each task; then the move start of each file.
+pub const PLAN: usize = 2 * Board::MAX_TASKS + Board::MAX_FILES;
+
+pub const START: usize = Board::MAX_TASKS;
+
+pub const MOVE_START: usize = START + Board::MAX_TASKS;
+
+// The run time of task i on a processor of the colour, blue being `true`.
+pub fn run_time(job: &[u64; JOB], i: usize, blue: bool) -> u64
+    requires { ⌜ i < maxTasks ⌝ }
+    ensures { λ r. ⌜ r ≡ cond blue (jobOf (now (job .entry)) .onBlue i) (jobOf (now (job .entry)) .onRed i) ⌝ }
+    ensures { λ r. ⌜ r ≤ max (jobOf (now (job .entry)) .onBlue i) (jobOf (now (job .entry)) .onRed i) ⌝ }
+{
+    either(blue, job[i], job[ON_RED + i])
+}
+
+pub fn maker(job: &[u64; JOB], k: usize) -> u64
+    requires { ⌜ k < maxFiles ⌝ }
+    ensures { λ r. ⌜ r ≡ jobOf (now (job .entry)) .maker k ⌝ }
+{
+    job[MAKER + k]
+}
+
+pub fn reader(job: &[u64; JOB], k: usize) -> u64
+    requires { ⌜ k < maxFiles ⌝ }
+    ensures { λ r. ⌜ r ≡ jobOf (now (job .entry)) .reader k ⌝ }
+{
+    job[READER + k]
+}
+
+pub fn size(job: &[u64; JOB], k: usize) -> u64
+    requires { ⌜ k < maxFiles ⌝ }
+    ensures { λ r. ⌜ r ≡ jobOf (now (job .entry)) .size k ⌝ }
+{
+    job[SIZE + k]
+}
+
+pub fn move_time(job: &[u64; JOB], k: usize) -> u64
+    requires { ⌜ k < maxFiles ⌝ }
+    ensures { λ r. ⌜ r ≡ jobOf (now (job .entry)) .moveTime k ⌝ }
+{
+    job[MOVE_TIME + k]
+}
+
+pub fn processor(plan: &[u64; PLAN], i: usize) -> u64
+    requires { ⌜ i < maxTasks ⌝ }
+    ensures { λ r. ⌜ r ≡ planOf (now (plan .entry)) .processor i ⌝ }
+{
+    plan[i]
+}
+
+pub fn start(plan: &[u64; PLAN], i: usize) -> u64
+    requires { ⌜ i < maxTasks ⌝ }
+    ensures { λ r. ⌜ r ≡ planOf (now (plan .entry)) .start i ⌝ }
+{
+    plan[START + i]
+}
+
+pub fn move_start(plan: &[u64; PLAN], k: usize) -> u64
+    requires { ⌜ k < maxFiles ⌝ }
+    ensures { λ r. ⌜ r ≡ planOf (now (plan .entry)) .moveStart k ⌝ }
+{
+    plan[MOVE_START + k]
+}
+
+// Whether task i runs on blue.
+pub fn on_blue(shape: Shape, plan: &[u64; PLAN], i: usize) -> bool
+    requires { ⌜ i < maxTasks ⌝ }
+    ensures { λ r. ⌜ r ≡ leb (planOf (now (plan .entry)) .processor i) (shape .board .blue .processors) ⌝ }
+{
+    processor(plan, i) <= shape.board.blue.processors
+}

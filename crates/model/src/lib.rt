@@ -1,0 +1,4 @@
+// The instance and the schedule as arrays of numbers, and what the memories hold by them.
+pub mod choice;
+pub mod layout;
+pub mod residency;
