@@ -1,6 +1,6 @@
 -- The cases of the small functions on holds and colours.
 use Prim.Native.Nat.{ℕ, _≤_, _<_, max}
-use mathlib.Core.Bool.{Bool, true, false, not, cond}
+use mathlib.Core.Bool.{Bool, true, false, not}
 use mathlib.Core.Path.{_≡_, refl}
 use lib.Dec.{ltb, leb}
 use borrow.Author.Tests.{le-leb, lt-leb}
@@ -8,7 +8,7 @@ use Rattle.rules.specs.Model.{sameColour}
 use Rattle.rules.specs.Residency.{covers, settles}
 use Rattle.rules.proofs.Tests.{clash}
 use Rattle.model.specs.declared.residency.Hold.{Hold}
-use Rattle.model.specs.declared.residency.Hold.the-variants.{Never, During, Since}
+use Rattle.model.specs.declared.residency.Hold.the-variants.{During, Since}
 use Rattle.model.specs.Layout.{colourBy}
 use Rattle.model.specs.Holds.{asHold}
 

@@ -1,5 +1,5 @@
 -- The code's hold, as the rules have it.
-use Prim.Native.Nat.{ℕ, _≤_, max}
+use Prim.Native.Nat.{ℕ, _≤_}
 use Rattle.rules.specs.Residency.{Hold as Held, never, during, since, settles}
 use Rattle.model.specs.declared.residency.Hold.{Hold}
 use Rattle.model.specs.declared.residency.Hold.the-variants.{Never, During, Since}

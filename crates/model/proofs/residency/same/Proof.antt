@@ -1,5 +1,4 @@
 use Rattle.model.proofs.HoldCases.{same-true, same-false}
-use borrow.Author.Needs.{needs}
 use Rattle.model.proofs.residency.same.Statement.{statement}
 use Rattle.model.proofs.residency.same.Tie as tie
 
