@@ -1,0 +1,11 @@
+-- The laws that the proofs of this crate cite, in the order to read them. Other crates cite those of PartLaws, FirstLineLaws and WroteLaws.
+pub mod PartLaws
+-- reading
+pub mod FrontLaws
+pub mod FirstLineLaws
+pub mod ReadNumeralLaws
+pub mod ScanLaws
+-- writing
+pub mod WroteLaws
+pub mod WriteNumeralLaws
+pub mod FillLaws

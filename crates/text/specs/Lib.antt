@@ -1,0 +1,5 @@
+-- What the contracts of this crate cite besides the definitions of `rules`.
+pub mod Faults
+pub mod FirstLine
+pub mod ReadNumbers
+pub mod Wrote
