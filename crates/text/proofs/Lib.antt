@@ -3,6 +3,7 @@ pub mod PartLaws
 -- reading
 pub mod FrontLaws
 pub mod FirstLineLaws
+pub mod LineAtLaws
 pub mod ReadNumeralLaws
 pub mod ScanLaws
 -- writing

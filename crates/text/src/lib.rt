@@ -14,5 +14,6 @@ pub use forms::scan;
 pub use forms::write_form;
 pub use forms::write_line;
 pub use lines::first_line;
+pub use lines::line_at;
 pub use numerals::number_size;
 pub use numerals::write_number;
