@@ -6,6 +6,7 @@ use lib.ListN.{getD}
 use Rattle.rules.specs.Count.{listBelow}
 use Rattle.rules.specs.Limits.{maxTasks, maxFiles, processorCounts, memoryLimits, runTimes, moveTimes, fileSizes, ticks}
 use Rattle.rules.specs.Model.{Colour, blue, red, Instance, Schedule, Task, File, Run}
+use Rattle.rules.specs.Scheduling.{Partial}
 use Rattle.rules.specs.BoardType.{sideFrom}
 use Rattle.rules.specs.Promises.{In}
 use Rattle.model.specs.declared.layout.Shape.{Shape}
@@ -74,6 +75,13 @@ scheduleFrom b L = record {
   moves = listBelow (b .files) (λ k. L .moveStart k);
 }
 
+-- the last finish of each processor, blue ones first, beside the schedule
+abbrev pub partialFrom : Shape → Plan → List ℕ → Partial
+partialFrom b L last = record {
+  schedule = scheduleFrom b L;
+  lastFinish = listBelow (b .board .blue .processors + b .board .red .processors) (λ p. getD last p 0);
+}
+
 -- the code's colour: blue is `true`
 abbrev pub colourBy : Bool → Colour
 colourBy flag = cond flag blue red
@@ -113,3 +121,7 @@ lastTick = ticks .most + runTimes .most + moveTimes .most
 -- no total of file sizes is greater
 abbrev pub mostHeld : ℕ
 mostHeld = fileSizes .most * maxFiles
+
+-- no last finish of a processor is later
+abbrev pub LastBounds : Shape → List ℕ → Type 0
+LastBounds b last = Bounded lastTick (b .board .blue .processors + b .board .red .processors) (λ p. getD last p 0)

@@ -35,6 +35,9 @@ pub const START: usize = Board::MAX_TASKS;
 
 pub const MOVE_START: usize = START + Board::MAX_TASKS;
 
+// The last finish of each processor, blue ones first.
+pub const LAST: usize = 2 * (Board::MAX_PROCESSORS as usize);
+
 // The run time of task i on a processor of the colour, blue being `true`.
 pub fn run_time(job: &[u64; JOB], i: usize, blue: bool) -> u64
     requires { ⌜ i < maxTasks ⌝ }

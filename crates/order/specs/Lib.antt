@@ -1,0 +1,2 @@
+-- What the code asks of an array of weights.
+pub mod Weights

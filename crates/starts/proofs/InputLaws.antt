@@ -1,0 +1,46 @@
+-- What the accessors read of a task's files, as the rules have it.
+use Prim.Native.Nat.{ℕ, _+_, _<_}
+use mathlib.Core.Bool.{Bool, true, false, cond, not, _&&_}
+use mathlib.Core.Path.{_≡_, sym, ap, _∙_}
+use native.Mathlib.Omega.{arith}
+use lib.Dec.{eqb}
+use borrow.Author.Tests.{eq-eqb, ne-eqb}
+use Rattle.rules.specs.Model.{sameColour, Instance, Schedule, finishAt, madeAt, moveTimeAt}
+use Rattle.rules.specs.Scheduling.{reads, makes, crossing, arrival}
+use Rattle.model.specs.declared.layout.Shape.{Shape}
+use Rattle.model.specs.Layout.{Job, Plan, instanceFrom, scheduleFrom, colourBy, Bounds}
+use Rattle.model.proofs.LayoutLaws.{file-at, run-at, processors-of, maker-at, reader-at, move-time-at, isBlue}
+
+module _ (b : Shape) (J : Job) {k : ℕ} (h : k < b .files) (i : ℕ) where
+  pub reads-at : {j : ℕ} → j ≡ J .reader k → eqb j i ≡ reads (instanceFrom b J) i k
+  reads-at e = ap (λ j. eqb j i) (e ∙ sym (reader-at b J k h))
+
+  pub makes-at : {j : ℕ} → j ≡ J .maker k → eqb j i ≡ makes (instanceFrom b J) i k
+  makes-at e = ap (λ j. eqb j i) (e ∙ sym (maker-at b J k h))
+
+module _ {b : Shape} {J : Job} {L : Plan} (f : Bounds b J L) {k : ℕ} (h : k < b .files) (i : ℕ) (c : Bool) where
+  abbrev I : Instance
+  I = instanceFrom b J
+
+  abbrev P : Schedule
+  P = scheduleFrom b L
+
+  crossing-at : crossing I P i (colourBy c) k ≡ eqb (J .reader k) i && not (sameColour (colourBy (isBlue f (J .maker k))) (colourBy c))
+  crossing-at = rw (file-at b J k h, run-at b L (J .maker k) (f .job .maker k h), processors-of b J true)
+
+  pub crossing-yes : {j m : ℕ} {from s : Bool} → j ≡ J .reader k → j ≡ i → m ≡ J .maker k → from ≡ isBlue f m
+      → s ≡ sameColour (colourBy from) (colourBy c) → not s ≡ crossing I P i (colourBy c) k
+  crossing-yes r e m q s = rw (crossing-at, eq-eqb (J .reader k) i (sym r ∙ e), s, q, m)
+
+  pub crossing-no : {j : ℕ} → j ≡ J .reader k → (j ≡ i → ⊥) → false ≡ crossing I P i (colourBy c) k
+  crossing-no r n = rw (crossing-at, ne-eqb (J .reader k) i (λ e. n (r ∙ e)))
+
+  made-at : madeAt I P k ≡ finishAt I P (J .maker k)
+  made-at = rw (file-at b J k h)
+
+  pub arrival-at : {m made takes r : ℕ} {flag : Bool} → m ≡ J .maker k → made ≡ finishAt I P m → flag ≡ crossing I P i (colourBy c) k
+      → takes ≡ J .moveTime k → r ≡ cond flag takes 0 → made + r ≡ arrival I P i (colourBy c) k
+  arrival-at {made = made} {r = r} x y q t z =
+      let e : r ≡ cond (crossing I P i (colourBy c) k) (moveTimeAt I k) 0 = rw (z, q, t, move-time-at b J k h) in
+      let g : made ≡ finishAt I P (J .maker k) = y ∙ ap (λ m. finishAt I P m) x in
+      omega (arith, made-at)

@@ -1,0 +1,72 @@
+-- `output_size` meets its contract. The invariant: the sum is that of the files passed that the task makes.
+use Prim.Native.Nat.{_≤_, _*_, _-_}
+use mathlib.Core.Path.{_≡_, sym}
+use native.Mathlib.Omega.{arith}
+use Rattle.rules.specs.Count.{sumWhere}
+use Rattle.rules.specs.Limits.{fileSizes}
+use Rattle.rules.specs.Model.{sizeAt}
+use Rattle.rules.specs.Scheduling.{makes}
+use Rattle.model.specs.Layout.{jobOf, instanceFrom}
+use Rattle.model.proofs.StepLaws.{sum-none}
+use Rattle.starts.proofs.InputLoops.{output-turn, output-total}
+use borrow.Author.Needs.{needs}
+use Rattle.starts.proofs.inputs.output_size.Statement.{statement}
+use Rattle.starts.proofs.inputs.output_size.Tie as tie
+
+abbrev Inv-loop : tie.InvT-loop
+Inv-loop shape job task sum₀ i₀ sum i =
+    (i ≤ shape .files) × (sum ≤ fileSizes .most * i)
+    × (sum ≡ sumWhere i (makes (instanceFrom shape (jobOf job)) task) (sizeAt (instanceFrom shape (jobOf job))))
+
+abbrev μ-loop : tie.MeasureT-loop
+μ-loop shape job task sum₀ i₀ sum i = shape .files - i
+
+loop-holds : tie.Need-loop-holds Inv-loop μ-loop
+loop-holds c = (omega arith, omega arith, sym (sum-none _))
+
+maker-requires : tie.Need-maker-requires Inv-loop μ-loop
+maker-requires c κs = search needs
+
+size-requires : tie.Need-size-requires Inv-loop μ-loop
+size-requires c κs = search needs
+
+when-requires : tie.Need-when-requires Inv-loop μ-loop
+when-requires c κs = search needs
+
+add-sum : tie.Need-add-sum Inv-loop μ-loop
+add-sum c = let s = c .before .before .before .before .before .before in omega (arith, s .pre .size (c .before .before .before .before .before .loop .i) (c .before .before .before .if1 .taken))
+
+add-i : tie.Need-add-i Inv-loop μ-loop
+add-i c = search needs
+
+loop-less : tie.Need-loop-less Inv-loop μ-loop
+loop-less c = search needs
+
+loop-again : tie.Need-loop-again Inv-loop μ-loop
+loop-again c =
+    let s = c .before .before .before .before .before .before in
+    let a = s .args in
+    let h = c .before .before .before .if1 .taken in
+    omega (arith, s .pre .size (c .before .before .before .before .before .loop .i) h, output-turn (a .shape) (jobOf (a .job .now)) (a .task) h (c .before .before .maker .ensures) (c .before .size .ensures) (c .when .ensures .0))
+
+returns : tie.Need-returns Inv-loop μ-loop
+returns c =
+    let s = c .before .before .before in
+    let a = s .args in
+    omega (arith, s .pre .files, output-total (a .shape) (jobOf (a .job .now)) (a .task) {n = c .before .before .loop .i} (omega arith))
+
+pub output-size-spec : {M : Type 1} → statement M
+output-size-spec =
+    tie.close
+    (tie.spec
+    Inv-loop
+    μ-loop
+    loop-holds
+    maker-requires
+    size-requires
+    when-requires
+    add-sum
+    add-i
+    loop-less
+    loop-again
+    returns)

@@ -1,0 +1,135 @@
+// What a task's files take: those that it reads and those that it makes, and start 2, at which all that it reads have arrived.
+ghost use mathlib.Core.Path.{_≡_};
+ghost use Prim.Native.Nat.{_+_, _<_, _≤_};
+ghost use Rattle.rules.specs.Limits.{moveTimes};
+ghost use Rattle.rules.specs.Scheduling.{crossing, crossingSize, crossingTime, outputSize, arrival as rules-arrival, inputStart};
+ghost use Rattle.model.specs.Layout.{jobOf, planOf, instanceFrom, scheduleFrom, colourBy, JobBounds, Bounds, mostHeld};
+ghost use Rattle.starts.specs.FreeMemory.{lastStart};
+use model::choice::greater;
+use model::choice::when;
+use model::layout;
+use model::layout::Shape;
+use model::residency::finish;
+use model::residency::same;
+
+// Whether file k is one that the task, on the colour, reads from a maker of the other colour.
+pub fn crossing_file<'a>(
+    shape: Shape,
+    job: &'a [u64; layout::JOB],
+    plan: &'a [u64; layout::PLAN],
+    k: usize,
+    task: u64,
+    colour: bool,
+) -> bool
+    requires { ⌜ Bounds shape (jobOf (now job)) (planOf (now plan)) ⌝ }
+    requires { ⌜ k < shape .files ⌝ }
+    ensures { λ r. ⌜ r ≡ crossing (instanceFrom shape (jobOf (now (job .entry)))) (scheduleFrom shape (planOf (now (plan .entry)))) task (colourBy colour) k ⌝ }
+{
+    if layout::reader(job, k) == task {
+        let m = layout::maker(job, k) as usize;
+        !same(layout::on_blue(shape, plan, m), colour)
+    } else {
+        false
+    }
+}
+
+// The sizes of the crossing files.
+pub fn crossing_size<'a>(
+    shape: Shape,
+    job: &'a [u64; layout::JOB],
+    plan: &'a [u64; layout::PLAN],
+    task: u64,
+    colour: bool,
+) -> u64
+    requires { ⌜ Bounds shape (jobOf (now job)) (planOf (now plan)) ⌝ }
+    ensures { λ r. ⌜ r ≡ crossingSize (instanceFrom shape (jobOf (now (job .entry)))) (scheduleFrom shape (planOf (now (plan .entry)))) task (colourBy colour) ⌝ }
+    ensures { λ r. ⌜ r ≤ mostHeld ⌝ }
+{
+    let mut sum: u64 = 0;
+    let mut i: usize = 0;
+    while i < shape.files {
+        let crosses = crossing_file(shape, job, plan, i, task, colour);
+        sum += when(crosses, layout::size(job, i));
+        i += 1;
+    }
+    sum
+}
+
+// The greatest move time of the crossing files; 0 if there are none.
+pub fn crossing_time<'a>(
+    shape: Shape,
+    job: &'a [u64; layout::JOB],
+    plan: &'a [u64; layout::PLAN],
+    task: u64,
+    colour: bool,
+) -> u64
+    requires { ⌜ Bounds shape (jobOf (now job)) (planOf (now plan)) ⌝ }
+    ensures { λ r. ⌜ r ≡ crossingTime (instanceFrom shape (jobOf (now (job .entry)))) (scheduleFrom shape (planOf (now (plan .entry)))) task (colourBy colour) ⌝ }
+    ensures { λ r. ⌜ r ≤ moveTimes .most ⌝ }
+{
+    let mut most: u64 = 0;
+    let mut i: usize = 0;
+    while i < shape.files {
+        let crosses = crossing_file(shape, job, plan, i, task, colour);
+        most = greater(most, when(crosses, layout::move_time(job, i)));
+        i += 1;
+    }
+    most
+}
+
+// The sizes of the files that the task makes.
+pub fn output_size(shape: Shape, job: &[u64; layout::JOB], task: u64) -> u64
+    requires { ⌜ JobBounds shape (jobOf (now job)) ⌝ }
+    ensures { λ r. ⌜ r ≡ outputSize (instanceFrom shape (jobOf (now (job .entry)))) task ⌝ }
+    ensures { λ r. ⌜ r ≤ mostHeld ⌝ }
+{
+    let mut sum: u64 = 0;
+    let mut i: usize = 0;
+    while i < shape.files {
+        sum += when(layout::maker(job, i) == task, layout::size(job, i));
+        i += 1;
+    }
+    sum
+}
+
+// When file k can have arrived for the task on the colour: at its maker's finish, or a move later if it crosses.
+pub fn arrival<'a>(
+    shape: Shape,
+    job: &'a [u64; layout::JOB],
+    plan: &'a [u64; layout::PLAN],
+    k: usize,
+    task: u64,
+    colour: bool,
+) -> u64
+    requires { ⌜ Bounds shape (jobOf (now job)) (planOf (now plan)) ⌝ }
+    requires { ⌜ k < shape .files ⌝ }
+    ensures { λ r. ⌜ r ≡ rules-arrival (instanceFrom shape (jobOf (now (job .entry)))) (scheduleFrom shape (planOf (now (plan .entry)))) task (colourBy colour) k ⌝ }
+    ensures { λ r. ⌜ r ≤ lastStart ⌝ }
+{
+    let m = layout::maker(job, k) as usize;
+    let made = finish(shape, job, plan, m);
+    let crosses = crossing_file(shape, job, plan, k, task, colour);
+    made + when(crosses, layout::move_time(job, k))
+}
+
+// Start 2: every file that the task reads has arrived; 0 if it reads none.
+pub fn input_start<'a>(
+    shape: Shape,
+    job: &'a [u64; layout::JOB],
+    plan: &'a [u64; layout::PLAN],
+    task: u64,
+    colour: bool,
+) -> u64
+    requires { ⌜ Bounds shape (jobOf (now job)) (planOf (now plan)) ⌝ }
+    ensures { λ r. ⌜ r ≡ inputStart (instanceFrom shape (jobOf (now (job .entry)))) (scheduleFrom shape (planOf (now (plan .entry)))) task (colourBy colour) ⌝ }
+    ensures { λ r. ⌜ r ≤ lastStart ⌝ }
+{
+    let mut most: u64 = 0;
+    let mut i: usize = 0;
+    while i < shape.files {
+        let t = arrival(shape, job, plan, i, task, colour);
+        most = greater(most, when(layout::reader(job, i) == task, t));
+        i += 1;
+    }
+    most
+}

@@ -1,0 +1,120 @@
+// From when on a memory has an amount free: starts 3 and 4.
+ghost use mathlib.Core.Path.{_≡_};
+ghost use Prim.Native.Nat.{_<_, _≤_};
+ghost use Rattle.rules.specs.Count.{maxBelow};
+ghost use Rattle.rules.specs.Scheduling.{fits, freeFrom};
+ghost use Rattle.model.specs.Layout.{jobOf, planOf, instanceFrom, scheduleFrom, colourBy, Bounds, lastTick};
+ghost use Rattle.model.specs.Holds.{asHold};
+ghost use Rattle.starts.specs.FreeMemory.{asOption, tickOf, endOf, lateEnd, mostNeeded};
+use model::choice::either;
+use model::choice::greater;
+use model::layout;
+use model::layout::Shape;
+use model::residency::Hold;
+use model::residency::held_at;
+use model::residency::hold_of;
+use model::residency::horizon_of;
+
+// A tick from which on something is so, if there is one.
+pub enum Free {
+    Nowhere,
+    From(u64),
+}
+
+// Whether the memory of the colour has `need` free at tick t.
+pub fn fits_at<'a>(
+    shape: Shape,
+    job: &'a [u64; layout::JOB],
+    plan: &'a [u64; layout::PLAN],
+    colour: bool,
+    need: u64,
+    t: u64,
+) -> bool
+    requires { ⌜ Bounds shape (jobOf (now job)) (planOf (now plan)) ⌝ }
+    requires { ⌜ need ≤ mostNeeded ⌝ }
+    ensures { λ r. ⌜ r ≡ fits (instanceFrom shape (jobOf (now (job .entry)))) (scheduleFrom shape (planOf (now (plan .entry)))) (colourBy colour) need t ⌝ }
+{
+    let held = held_at(shape, job, plan, colour, t);
+    let limit = either(colour, shape.board.blue.limit, shape.board.red.limit);
+    held + need <= limit
+}
+
+// The end of a hold that ends; else 0.
+fn end_of(h: Hold) -> u64
+    ensures { λ r. ⌜ r ≡ endOf (asHold h) ⌝ }
+{
+    match h {
+        Hold::Never => 0,
+        Hold::During(_, end) => end,
+        Hold::Since(_) => 0,
+    }
+}
+
+// The end of the memory's hold of file k, if `need` does not fit just before it; else 0.
+fn late_end<'a>(
+    shape: Shape,
+    job: &'a [u64; layout::JOB],
+    plan: &'a [u64; layout::PLAN],
+    k: usize,
+    colour: bool,
+    need: u64,
+) -> u64
+    requires { ⌜ Bounds shape (jobOf (now job)) (planOf (now plan)) ⌝ }
+    requires { ⌜ k < shape .files ⌝ }
+    requires { ⌜ need ≤ mostNeeded ⌝ }
+    ensures { λ r. ⌜ r ≡ lateEnd (instanceFrom shape (jobOf (now (job .entry)))) (scheduleFrom shape (planOf (now (plan .entry)))) (colourBy colour) need k ⌝ }
+    ensures { λ r. ⌜ r ≤ lastTick ⌝ }
+{
+    let e = end_of(hold_of(shape, job, plan, k, colour));
+    if e == 0 {
+        return 0;
+    }
+    if fits_at(shape, job, plan, colour, need, e - 1) {
+        return 0;
+    }
+    e
+}
+
+// The latest of these ends.
+fn last_late<'a>(
+    shape: Shape,
+    job: &'a [u64; layout::JOB],
+    plan: &'a [u64; layout::PLAN],
+    colour: bool,
+    need: u64,
+) -> u64
+    requires { ⌜ Bounds shape (jobOf (now job)) (planOf (now plan)) ⌝ }
+    requires { ⌜ need ≤ mostNeeded ⌝ }
+    ensures { λ r. ⌜ r ≡ maxBelow (shape .files) (lateEnd (instanceFrom shape (jobOf (now (job .entry)))) (scheduleFrom shape (planOf (now (plan .entry)))) (colourBy colour) need) ⌝ }
+    ensures { λ r. ⌜ r ≤ lastTick ⌝ }
+{
+    let mut most: u64 = 0;
+    let mut i: usize = 0;
+    while i < shape.files {
+        most = greater(most, late_end(shape, job, plan, i, colour, need));
+        i += 1;
+    }
+    most
+}
+
+// The first tick from which on the memory of the colour always has `need` free. Memory becomes free only where a hold
+// ends, so that tick is 0 or the latest end just before which `need` does not fit.
+pub fn free_from<'a>(
+    shape: Shape,
+    job: &'a [u64; layout::JOB],
+    plan: &'a [u64; layout::PLAN],
+    colour: bool,
+    need: u64,
+) -> Free
+    requires { ⌜ Bounds shape (jobOf (now job)) (planOf (now plan)) ⌝ }
+    requires { ⌜ need ≤ mostNeeded ⌝ }
+    ensures { λ r. ⌜ asOption r ≡ freeFrom (instanceFrom shape (jobOf (now (job .entry)))) (scheduleFrom shape (planOf (now (plan .entry)))) (colourBy colour) need ⌝ }
+    ensures { λ r. ⌜ tickOf r ≤ lastTick ⌝ }
+{
+    let settled = horizon_of(shape, job, plan, colour);
+    if fits_at(shape, job, plan, colour, need, settled) {
+        Free::From(last_late(shape, job, plan, colour, need))
+    } else {
+        Free::Nowhere
+    }
+}

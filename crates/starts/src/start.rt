@@ -1,0 +1,80 @@
+// The earliest start of a task on a colour: the greatest of the starts 1 to 4.
+ghost use mathlib.Core.Path.{_≡_};
+ghost use mathlib.Core.Option.{some};
+ghost use Prim.Native.Nat.{_+_, _≤_};
+ghost use Rattle.rules.specs.Limits.{processorCounts, moveTimes};
+ghost use Rattle.rules.specs.Promises.{In};
+ghost use Rattle.rules.specs.Scheduling.{processorStart, latest as rules-latest, delayed, earliestStart};
+ghost use Rattle.model.specs.Layout.{Job, Plan, jobOf, planOf, instanceFrom, partialFrom, colourBy, Bounds, LastBounds, lastTick};
+ghost use Rattle.starts.specs.FreeMemory.{asOption, tickOf, lastStart};
+use super::inputs::crossing_size;
+use super::inputs::crossing_time;
+use super::inputs::input_start;
+use super::inputs::output_size;
+use super::memory::Free;
+use super::memory::free_from;
+use model::choice::either;
+use model::choice::greater;
+use model::choice::lesser;
+use model::layout;
+use model::layout::Shape;
+
+// Start 1: the least last finish of the colour's processors.
+pub fn processor_start(shape: Shape, last: &[u64; layout::LAST], colour: bool) -> u64
+    requires { ⌜ In processorCounts (shape .board .blue .processors) × In processorCounts (shape .board .red .processors) ⌝ }
+    requires { ⌜ LastBounds shape (now last) ⌝ }
+    ensures { λ r. ⌜ ((J : Job) (L : Plan) → r ≡ processorStart (instanceFrom shape J) (partialFrom shape L (now (last .entry))) (colourBy colour)) ⌝ }
+    ensures { λ r. ⌜ r ≤ lastTick ⌝ }
+{
+    let blue = shape.board.blue.processors;
+    let first = either(colour, 0, blue);
+    let count = either(colour, blue, shape.board.red.processors);
+    let at = first as usize;
+    let mut least = last[at];
+    let mut i: u64 = 1;
+    while i < count {
+        let at = (first + i) as usize;
+        least = lesser(least, last[at]);
+        i += 1;
+    }
+    least
+}
+
+// The greatest of the starts: 1 and 2 (`ready`), 3 (`running`), and 4, which is `delay` after `moving`.
+fn latest(ready: u64, running: Free, moving: Free, delay: u64) -> Free
+    requires { ⌜ (ready ≤ lastStart) × (tickOf running ≤ lastTick) × (tickOf moving ≤ lastTick) × (delay ≤ moveTimes .most) ⌝ }
+    ensures { λ r. ⌜ asOption r ≡ rules-latest (some ready) (rules-latest (asOption running) (delayed (asOption moving) delay)) ⌝ }
+    ensures { λ r. ⌜ tickOf r ≤ lastStart ⌝ }
+{
+    let Free::From(s) = running else {
+        return Free::Nowhere;
+    };
+    let Free::From(t) = moving else {
+        return Free::Nowhere;
+    };
+    Free::From(greater(ready, greater(s, t + delay)))
+}
+
+// The earliest start of the task on the colour, if the colour fits.
+pub fn earliest_start<'a>(
+    shape: Shape,
+    job: &'a [u64; layout::JOB],
+    plan: &'a [u64; layout::PLAN],
+    last: &'a [u64; layout::LAST],
+    task: u64,
+    colour: bool,
+) -> Free
+    requires { ⌜ Bounds shape (jobOf (now job)) (planOf (now plan)) ⌝ }
+    requires { ⌜ LastBounds shape (now last) ⌝ }
+    ensures { λ r. ⌜ asOption r ≡ earliestStart (instanceFrom shape (jobOf (now (job .entry)))) (partialFrom shape (planOf (now (plan .entry))) (now (last .entry))) task (colourBy colour) ⌝ }
+    ensures { λ r. ⌜ tickOf r ≤ lastStart ⌝ }
+{
+    let incoming = crossing_size(shape, job, plan, task, colour);
+    let made = output_size(shape, job, task);
+    let free = processor_start(shape, last, colour);
+    let ready = greater(free, input_start(shape, job, plan, task, colour));
+    let running = free_from(shape, job, plan, colour, incoming + made);
+    let moving = free_from(shape, job, plan, colour, incoming);
+    let delay = crossing_time(shape, job, plan, task, colour);
+    latest(ready, running, moving, delay)
+}
