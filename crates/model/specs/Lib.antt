@@ -1,3 +1,4 @@
 -- The rules' instance and schedule, made of the arrays that the code holds.
 pub mod Layout
 pub mod Holds
+pub mod Claims
