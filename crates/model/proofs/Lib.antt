@@ -6,5 +6,7 @@ pub mod StepLaws
 pub mod HoldCases
 -- the instance and the schedule of the arrays, by index
 pub mod LayoutLaws
+-- crossing files
+pub mod CrossingLaws
 -- the loops over the files
 pub mod ResidencyLoops

@@ -1,15 +1,14 @@
 -- What the accessors read of a task's files, as the rules have it.
 use Prim.Native.Nat.{ℕ, _+_, _<_}
-use mathlib.Core.Bool.{Bool, true, false, cond, not, _&&_}
+use mathlib.Core.Bool.{Bool, cond}
 use mathlib.Core.Path.{_≡_, sym, ap, _∙_}
 use native.Mathlib.Omega.{arith}
 use lib.Dec.{eqb}
-use borrow.Author.Tests.{eq-eqb, ne-eqb}
-use Rattle.rules.specs.Model.{sameColour, Instance, Schedule, finishAt, madeAt, moveTimeAt}
+use Rattle.rules.specs.Model.{Instance, Schedule, finishAt, madeAt, moveTimeAt}
 use Rattle.rules.specs.Scheduling.{reads, makes, crossing, arrival}
 use Rattle.model.specs.declared.layout.Shape.{Shape}
 use Rattle.model.specs.Layout.{Job, Plan, instanceFrom, scheduleFrom, colourBy, Bounds}
-use Rattle.model.proofs.LayoutLaws.{file-at, run-at, processors-of, maker-at, reader-at, move-time-at, isBlue}
+use Rattle.model.proofs.LayoutLaws.{file-at, maker-at, reader-at, move-time-at}
 
 module _ (b : Shape) (J : Job) {k : ℕ} (h : k < b .files) (i : ℕ) where
   pub reads-at : {j : ℕ} → j ≡ J .reader k → eqb j i ≡ reads (instanceFrom b J) i k
@@ -24,16 +23,6 @@ module _ {b : Shape} {J : Job} {L : Plan} (f : Bounds b J L) {k : ℕ} (h : k < 
 
   abbrev P : Schedule
   P = scheduleFrom b L
-
-  crossing-at : crossing I P i (colourBy c) k ≡ eqb (J .reader k) i && not (sameColour (colourBy (isBlue f (J .maker k))) (colourBy c))
-  crossing-at = rw (file-at b J k h, run-at b L (J .maker k) (f .job .maker k h), processors-of b J true)
-
-  pub crossing-yes : {j m : ℕ} {from s : Bool} → j ≡ J .reader k → j ≡ i → m ≡ J .maker k → from ≡ isBlue f m
-      → s ≡ sameColour (colourBy from) (colourBy c) → not s ≡ crossing I P i (colourBy c) k
-  crossing-yes r e m q s = rw (crossing-at, eq-eqb (J .reader k) i (sym r ∙ e), s, q, m)
-
-  pub crossing-no : {j : ℕ} → j ≡ J .reader k → (j ≡ i → ⊥) → false ≡ crossing I P i (colourBy c) k
-  crossing-no r n = rw (crossing-at, ne-eqb (J .reader k) i (λ e. n (r ∙ e)))
 
   made-at : madeAt I P k ≡ finishAt I P (J .maker k)
   made-at = rw (file-at b J k h)

@@ -2,36 +2,15 @@
 ghost use mathlib.Core.Path.{_≡_};
 ghost use Prim.Native.Nat.{_+_, _<_, _≤_};
 ghost use Rattle.rules.specs.Limits.{moveTimes};
-ghost use Rattle.rules.specs.Scheduling.{crossing, crossingSize, crossingTime, outputSize, arrival as rules-arrival, inputStart};
+ghost use Rattle.rules.specs.Scheduling.{crossingSize, crossingTime, outputSize, arrival as rules-arrival, inputStart};
 ghost use Rattle.model.specs.Layout.{jobOf, planOf, instanceFrom, scheduleFrom, colourBy, JobBounds, Bounds, mostHeld};
 ghost use Rattle.starts.specs.FreeMemory.{lastStart};
 use model::choice::greater;
 use model::choice::when;
+use model::crossing::crossing_file;
 use model::layout;
 use model::layout::Shape;
 use model::residency::finish;
-use model::residency::same;
-
-// Whether file k is one that the task, on the colour, reads from a maker of the other colour.
-pub fn crossing_file<'a>(
-    shape: Shape,
-    job: &'a [u64; layout::JOB],
-    plan: &'a [u64; layout::PLAN],
-    k: usize,
-    task: u64,
-    colour: bool,
-) -> bool
-    requires { ⌜ Bounds shape (jobOf (now job)) (planOf (now plan)) ⌝ }
-    requires { ⌜ k < shape .files ⌝ }
-    ensures { λ r. ⌜ r ≡ crossing (instanceFrom shape (jobOf (now (job .entry)))) (scheduleFrom shape (planOf (now (plan .entry)))) task (colourBy colour) k ⌝ }
-{
-    if layout::reader(job, k) == task {
-        let m = layout::maker(job, k) as usize;
-        !same(layout::on_blue(shape, plan, m), colour)
-    } else {
-        false
-    }
-}
 
 // The sizes of the crossing files.
 pub fn crossing_size<'a>(

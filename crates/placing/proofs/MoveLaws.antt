@@ -1,0 +1,83 @@
+-- The moves of the files that a task reads, as it is placed.
+use Prim.Native.Nat.{ℕ, _+_, _-_, _*_, _≤_, _<_}
+use mathlib.Core.Bool.{Bool, cond}
+use mathlib.Core.List.{List}
+use mathlib.Core.Path.{_≡_, refl, sym, ap, _∙_}
+use native.Mathlib.Omega.{arith}
+use native.Mathlib.Decide.{ℕ-discrete}
+use lib.ListN.{length, getD, set, length-set}
+use lib.Seq.{getD-set-same, getD-set-other}
+use Rattle.rules.specs.Count.{listBelow}
+use Rattle.rules.specs.Limits.{maxTasks}
+use Rattle.rules.specs.Model.{Instance, Schedule, Colour, runAt, moveAt, fileAt, fileCount}
+use Rattle.rules.specs.Scheduling.{crossing, moveWith}
+use Rattle.model.specs.declared.layout.Shape.{Shape}
+use Rattle.model.specs.Layout.{Job, Plan, planOf, instanceFrom, scheduleFrom, JobBounds}
+use Rattle.model.proofs.LayoutLaws.{file-count, maker-at, move-time-at, run-at, move-at}
+use Rattle.placing.specs.Slots.{planLength}
+use Rattle.placing.proofs.IndexLaws.{list-cong}
+
+module _ {b : Shape} {J : Job} (f : JobBounds b J) (L : Plan) {k : ℕ} (h : k < b .files) where
+  abbrev I : Instance
+  I = instanceFrom b J
+
+  abbrev P : Schedule
+  P = scheduleFrom b L
+
+  pub move-from : (i : ℕ) (c : Colour) (start : ℕ) {y : Bool} {t d u : ℕ} → y ≡ crossing I P i c k → t ≡ J .moveTime k → d ≡ start - t → u ≡ L .moveStart k
+      → cond y d u ≡ moveWith I P i c start k
+  move-from i c start p q e r = rw (p, e, q, r, move-time-at b J k h, move-at b L k h)
+
+-- ---- the loop over the files
+
+module _ {b : Shape} {J : Job} (f : JobBounds b J) (xs : List ℕ) (i : ℕ) (c : Colour) (start : ℕ) where
+  abbrev inst : Instance
+  inst = instanceFrom b J
+
+  -- when a file moves, by the plan xs
+  abbrev pub moveBy : ℕ → ℕ
+  moveBy = moveWith inst (scheduleFrom b (planOf xs)) i c start
+
+  -- ys is the plan xs with the move starts of the first k files set
+  pub record MovesTo (ys : List ℕ) (k : ℕ) : Type 0 where
+    pub size : length ys ≡ planLength
+    pub runs : (j : ℕ) → j < 2 * maxTasks → getD ys j 0 ≡ getD xs j 0
+    pub done : (j : ℕ) → j < k → planOf ys .moveStart j ≡ moveBy j
+    pub rest : (j : ℕ) → k ≤ j → planOf ys .moveStart j ≡ planOf xs .moveStart j
+
+  pub moves-none : length xs ≡ planLength → MovesTo xs 0
+  moves-none e = record {
+    size = e;
+    runs = λ j l. refl;
+    done = λ j l. absurd (omega arith);
+    rest = λ j l. refl;
+  }
+
+  module _ {ys : List ℕ} {k : ℕ} (h : k < b .files) (m : MovesTo ys k) where
+    -- the runs are those of xs, so the same files cross
+    same-run : (j : ℕ) → j < b .tasks → runAt (scheduleFrom b (planOf ys)) j ≡ runAt (scheduleFrom b (planOf xs)) j
+    same-run j l =
+        let p : getD ys j 0 ≡ getD xs j 0 = m .runs j (omega (arith, f .tasks)) in
+        let q : getD ys (maxTasks + j) 0 ≡ getD xs (maxTasks + j) 0 = m .runs (maxTasks + j) (omega (arith, f .tasks)) in
+        run-at b (planOf ys) j l ∙ rw (p, q) (sym (run-at b (planOf xs) j l))
+
+    same-move : moveWith inst (scheduleFrom b (planOf ys)) i c start k ≡ moveBy k
+    same-move =
+        let r : runAt (scheduleFrom b (planOf ys)) (fileAt inst k .maker) ≡ runAt (scheduleFrom b (planOf xs)) (fileAt inst k .maker) = same-run (fileAt inst k .maker) (omega (arith, maker-at b J k h, f .maker k h)) in
+        let u : moveAt (scheduleFrom b (planOf ys)) k ≡ moveAt (scheduleFrom b (planOf xs)) k = move-at b (planOf ys) k h ∙ m .rest k (omega arith) ∙ sym (move-at b (planOf xs) k h) in
+        rw (r, u)
+
+    pub moves-turn : {t : ℕ} → t ≡ moveWith inst (scheduleFrom b (planOf ys)) i c start k → MovesTo (set ys (2 * maxTasks + k) t) (k + 1)
+    moves-turn {t} e =
+        let at : ℕ = 2 * maxTasks + k in record {
+          size = length-set ys at t ∙ m .size;
+          runs = λ j l. getD-set-other ys at j t 0 (λ z. omega arith) ∙ m .runs j l;
+          done = λ j l. elim (ℕ-discrete j k) [
+            | yes d ↦ rw d (getD-set-same ys at t 0 (omega (arith, f .files, m .size)) ∙ e ∙ same-move)
+            | no d ↦ getD-set-other ys at (2 * maxTasks + j) t 0 (λ z. d (omega arith)) ∙ m .done j (omega arith)
+          ];
+          rest = λ j l. getD-set-other ys at (2 * maxTasks + j) t 0 (λ z. omega arith) ∙ m .rest j (omega arith);
+        }
+
+  pub moves-total : {ys : List ℕ} {n : ℕ} → n ≡ b .files → MovesTo ys n → listBelow (b .files) (planOf ys .moveStart) ≡ listBelow (fileCount inst) moveBy
+  moves-total e m = list-cong (b .files) _ _ (λ k l. m .done k (omega arith)) ∙ ap (λ n. listBelow n moveBy) (sym (file-count b J))

@@ -1,0 +1,2 @@
+-- The processors of a colour among the last finishes.
+pub mod Slots
