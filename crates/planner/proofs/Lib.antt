@@ -1,2 +1,0 @@
--- The planner's state between rounds: what holds of it at the start, after a round, and at the end.
-pub mod PlanningLaws
