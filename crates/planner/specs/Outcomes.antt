@@ -1,0 +1,16 @@
+-- The code's planner and outcome, as the rules have them.
+use Rattle.rules.specs.Model.{Schedule}
+use Rattle.rules.specs.Scheduling as Rules
+use Rattle.planner.specs.declared.Rule.{Rule}
+use Rattle.planner.specs.declared.Rule.the-variants.{MemHeft, MemMinMin}
+use Rattle.planner.specs.declared.Outcome.{Outcome}
+use Rattle.planner.specs.declared.Outcome.the-variants.{Complete, Stuck}
+
+abbrev pub asPlanner : Rule → Rules.Planner
+asPlanner MemHeft = Rules.memHeft
+asPlanner MemMinMin = Rules.memMinMin
+
+-- an outcome beside the schedule that was made
+abbrev pub asOutcome : Outcome → Schedule → Rules.Outcome
+asOutcome (Complete trials) P = Rules.complete P trials
+asOutcome (Stuck placed trials) P = Rules.stuck placed trials

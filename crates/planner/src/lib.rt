@@ -1,0 +1,86 @@
+// MemHEFT and MemMinMin: rounds, each of which places one task, until all are placed or none fits.
+ghost use mathlib.Core.Path.{_≡_};
+ghost use Prim.Native.Nat.{_*_, _≤_};
+ghost use lib.ListN.{getD, replicate};
+ghost use Rattle.rules.specs.Count.{listBelow};
+ghost use Rattle.rules.specs.Model.{taskCount};
+ghost use Rattle.rules.specs.Promises.{WellFormed};
+ghost use Rattle.rules.specs.Scheduling.{byWeight, roundOf, outcome};
+ghost use Rattle.model.specs.Layout.{jobOf, planOf, instanceFrom, scheduleFrom, partialFrom, Bounds, LastBounds};
+ghost use Rattle.placing.specs.Slots.{planLength};
+ghost use Rattle.rounds.specs.Choices.{asRound, ChoiceBounds, OrderBounds};
+ghost use Rattle.planner.specs.Outcomes.{asPlanner, asOutcome};
+use model::layout;
+use model::layout::Shape;
+use order::list::by_weight;
+use placing::task::place;
+use rounds::round::Round;
+use rounds::round::earliest_round;
+use rounds::round::first_that_fits;
+use rounds::trial::Choice;
+use rules::Board;
+
+// The two planners.
+pub enum Rule {
+    MemHeft,
+    MemMinMin,
+}
+
+// All tasks placed, or stuck after so many; and the trials made.
+pub enum Outcome {
+    Complete { trials: u64 },
+    Stuck { placed: u64, trials: u64 },
+}
+
+// One round of the planner; `order` is MemHEFT's list.
+fn round<'a>(
+    rule: Rule,
+    shape: Shape,
+    job: &'a [u64; layout::JOB],
+    plan: &'a [u64; layout::PLAN],
+    last: &'a [u64; layout::LAST],
+    order: &'a [u64; Board::MAX_TASKS],
+) -> Round
+    requires { ⌜ Bounds shape (jobOf (now job)) (planOf (now plan)) ⌝ }
+    requires { ⌜ LastBounds shape (now last) ⌝ }
+    requires { ⌜ OrderBounds shape (now order) ⌝ }
+    requires { ⌜ listBelow (shape .tasks) (λ p. getD (now order) p 0) ≡ byWeight (instanceFrom shape (jobOf (now job))) (taskCount (instanceFrom shape (jobOf (now job)))) ⌝ }
+    ensures { λ r. ⌜ asRound r ≡ roundOf (asPlanner rule) (instanceFrom shape (jobOf (now (job .entry)))) (partialFrom shape (planOf (now (plan .entry))) (now (last .entry))) ⌝ }
+    ensures { λ r. ⌜ ChoiceBounds shape (r .choice) × (r .trials ≤ 2 * shape .tasks) ⌝ }
+{
+    match rule {
+        Rule::MemHeft => first_that_fits(shape, job, plan, last, order),
+        Rule::MemMinMin => earliest_round(shape, job, plan, last),
+    }
+}
+
+// The planner on an instance: the rounds, from an empty plan on.
+pub fn run(
+    rule: Rule,
+    shape: Shape,
+    job: &[u64; layout::JOB],
+    plan: &mut [u64; layout::PLAN],
+) -> Outcome
+    requires { ⌜ WellFormed (instanceFrom shape (jobOf (now job))) ⌝ }
+    requires { ⌜ now plan ≡ replicate planLength 0 ⌝ }
+    ensures { λ r. ⌜ asOutcome r (scheduleFrom shape (planOf (now (plan .exit)))) ≡ outcome (asPlanner rule) (instanceFrom shape (jobOf (now (job .entry)))) ⌝ }
+{
+    let order = by_weight(shape, job);
+    let mut last = [0; layout::LAST];
+    let mut placed: usize = 0;
+    let mut trials: u64 = 0;
+    while placed < shape.tasks {
+        let found = round(rule, shape, job, plan, &last, &order);
+        trials += found.trials;
+        let choice = found.choice;
+        let Choice::Choose { task, blue, start } = choice else {
+            return Outcome::Stuck {
+                placed: placed as u64,
+                trials,
+            };
+        };
+        place(shape, job, plan, &mut last, task as usize, blue, start);
+        placed += 1;
+    }
+    Outcome::Complete { trials }
+}
