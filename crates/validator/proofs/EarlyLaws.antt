@@ -1,0 +1,44 @@
+-- The lowest reader of an early file is the lowest task that reads one.
+use Prim.Native.Nat.{ℕ, _<_}
+use mathlib.Core.Bool.{Bool, true, cond, _||_}
+use mathlib.Core.Path.{_≡_}
+use native.Mathlib.Omega.{arith}
+use lib.Dec.{eqb, ltb}
+use borrow.Author.Tests.{eqb-true, eq-eqb}
+use Rattle.rules.specs.Count.{firstBelow}
+use Rattle.rules.specs.Model.{Instance, taskCount, fileAt, fileCount, Schedule, startAt, moveAt, moved, madeAt, moveEnd}
+use Rattle.rules.specs.Validity.{early, earlyFor, readsEarly}
+use Rattle.rules.proofs.Tests.{and-true}
+use Rattle.rules.proofs.CountLaws.{any-found, any-some, first-is}
+use Rattle.validator.specs.Least.{leastWhere}
+use Rattle.validator.proofs.LeastLaws.{least-default, least-bound, least-reached}
+
+abbrev pub readerOf : Instance → ℕ → ℕ
+readerOf I k = fileAt I k .reader
+
+-- whether a file is early, from its times
+pub early-is : (I : Instance) (P : Schedule) (k : ℕ) {moves : Bool} {made departs arrives starts : ℕ}
+    → moves ≡ moved I P k → made ≡ madeAt I P k → departs ≡ moveAt P k → arrives ≡ moveEnd I P k → starts ≡ startAt P (readerOf I k)
+    → cond moves (ltb departs made || ltb starts arrives) (ltb starts made) ≡ early I P k
+unfolding early
+early-is I P k p q r s t = rw (p, q, r, s, t)
+
+module _ (I : Instance) (P : Schedule) where
+  reads-early : (k j : ℕ) → k < fileCount I → early I P k ≡ true → readerOf I k ≡ j → readsEarly I P j ≡ true
+  unfolding readsEarly
+  reads-early k j l e q = any-some (fileCount I) (earlyFor I P j) k l (rw (eq-eqb (readerOf I k) j q) e)
+
+  early-read : (j : ℕ) → readsEarly I P j ≡ true → (k : ℕ) × (k < fileCount I) × (early I P k ≡ true) × (readerOf I k ≡ j)
+  unfolding readsEarly
+  early-read j h =
+      let r = any-found (fileCount I) (earlyFor I P j) h in
+      let x = and-true (eqb (readerOf I (r .0)) j) (early I P (r .0)) (r .2) in
+      (r .0, r .1, x .1, eqb-true _ _ (x .0))
+
+  pub first-early : leastWhere (fileCount I) (taskCount I) (early I P) (readerOf I) ≡ firstBelow (taskCount I) (readsEarly I P)
+  first-early =
+      let n = taskCount I in
+      let m = fileCount I in
+      first-is n (readsEarly I P) (leastWhere m n (early I P) (readerOf I)) (least-default n (early I P) (readerOf I) m)
+      (λ l. let r = least-reached n (early I P) (readerOf I) m l in reads-early (r .0) _ (r .1) (r .2) (r .3))
+      (λ t l h. let r = early-read t h in omega (arith, least-bound n (early I P) (readerOf I) m (r .0) (r .1) (r .2), r .3))

@@ -1,0 +1,142 @@
+-- One turn of each loop over the files or the tasks, and what it comes to after all of them; and what the accessors read.
+use Prim.Native.Nat.{ℕ, _+_, _≤_, _<_, max, min}
+use mathlib.Core.Bool.{Bool, true, false, not, cond, _||_}
+use mathlib.Core.Path.{_≡_, sym, ap, _∙_}
+use native.Mathlib.Omega.{arith}
+use native.Mathlib.Decide.{ℕ-discrete}
+use mathlib.Core.List.{List}
+use lib.Dec.{ltb}
+use lib.ListN.{length, set}
+use lib.Seq.{getD-set-same, getD-set-other}
+use borrow.Author.Tests.{lt-ltb, le-ltb}
+use Rattle.rules.specs.Count.{maxBelow, firstBelow}
+use Rattle.rules.specs.Model.{Colour, blue, red, sameColour, Instance, Schedule, taskCount, fileCount, startAt, finishAt, isPlaced, makerRun, readerRun}
+use Rattle.rules.specs.Residency.{holdOf, held}
+use Rattle.rules.specs.Validity.{overlaps, early, readsEarly, makespan, peak, over}
+use Rattle.rules.proofs.CompleteLaws.{none-held}
+use Rattle.model.specs.declared.layout.Shape.{Shape}
+use Rattle.model.specs.declared.residency.Hold.{Hold}
+use Rattle.model.specs.Layout.{Job, Plan, Bounds, instanceFrom, scheduleFrom, colourBy}
+use Rattle.model.specs.Holds.{asHold}
+use Rattle.model.proofs.LayoutLaws.{file-count, task-count, file-at, maker-at, reader-at, move-time-at, run-at, move-at, limit-of, isBlue, moved-at}
+use Rattle.model.proofs.StepLaws.{max-next}
+use Rattle.runs.specs.declared.Run.{Run}
+use Rattle.runs.specs.First.{FirstOverlap}
+use Rattle.runs.specs.Scan.{noRun}
+use Rattle.validator.specs.Complete.{Placed}
+use Rattle.validator.specs.Least.{leastWhere}
+use Rattle.validator.specs.Records.{recordAt, Records}
+use Rattle.validator.specs.Starts.{startOf, startIn, heldAtStart, overAtStart, firstOverIn}
+use Rattle.validator.proofs.EarlyLaws.{readerOf, early-is, first-early}
+use Rattle.validator.proofs.LeastLaws.{least-turn}
+use Rattle.validator.proofs.OverlapLaws.{lowest-overlapping}
+use Rattle.validator.proofs.RiseLaws.{over-by, over-is, peak-starts, first-over}
+
+module _ {b : Shape} {J : Job} {L : Plan} (f : Bounds b J L) where
+  abbrev I : Instance
+  I = instanceFrom b J
+
+  abbrev P : Schedule
+  P = scheduleFrom b L
+
+  -- ---- 15
+
+  pub record-at : {i p s e : ℕ} → i < b .tasks → p ≡ L .processor i → s ≡ L .start i → e ≡ finishAt I P i
+      → _≡_ {A = Run} (record { processor = p; start = s; finish = e }) (recordAt I P i)
+  record-at {i} h x y z =
+      let r = run-at b L i h in
+      let u = x ∙ sym (ap (λ r. r .processor) r) in
+      let v = y ∙ sym (ap (λ r. r .start) r) in
+      λ k. record { processor = u k; start = v k; finish = z k }
+
+  pub records-next : (n : ℕ) (l : List Run) (r : Run) → n < length l → r ≡ recordAt I P n → Records I P n l → Records I P (n + 1) (set l n r)
+  records-next n l r h e all i m = elim (ℕ-discrete i n) [
+    | yes q ↦ rw q (getD-set-same l n r noRun h ∙ e)
+    | no q ↦ getD-set-other l n i r noRun q ∙ all i (omega arith)
+  ]
+
+  pub overlap-total : (l : List Run) (r : ℕ) → Records I P (b .tasks) l → FirstOverlap l (b .tasks) r → r ≡ firstBelow (taskCount I) (overlaps I P)
+  overlap-total l r all F = lowest-overlapping I P l (rw (task-count b J) all) r (rw (task-count b J) F)
+
+  -- ---- 16
+
+  module _ {k : ℕ} (h : k < b .files) where
+    abbrev m : ℕ
+    m = J .maker k
+
+    abbrev d : ℕ
+    d = J .reader k
+
+    -- whether a file is early, from what the accessors read
+    module _ {i j made departs takes starts : ℕ} {from to s : Bool} (maker : i ≡ m) (reader : j ≡ d)
+        (from-is : from ≡ isBlue f i) (to-is : to ≡ isBlue f j) (moves : s ≡ sameColour (colourBy from) (colourBy to))
+        (leaves : departs ≡ L .moveStart k) (time : takes ≡ J .moveTime k) (made-is : made ≡ finishAt I P i) (starts-is : starts ≡ L .start j) where
+      pub early-from : {r : Bool} → r ≡ cond (not s) (ltb departs made || ltb starts (departs + takes)) (ltb starts made) → r ≡ early I P k
+      early-from e = e ∙ early-is I P k
+          (moved-at f h s (rw (moves, from-is, to-is, maker, reader)))
+          (made-is ∙ ap (finishAt I P) (maker ∙ sym (maker-at b J k h)))
+          (leaves ∙ sym (move-at b L k h))
+          (omega (arith, leaves, time, move-at b L k h, move-time-at b J k h))
+          (starts-is ∙ ap (L .start) reader ∙ sym (ap (λ r. r .start) (run-at b L d (f .job .reader k h))) ∙ ap (startAt P) (sym (reader-at b J k h)))
+
+    pub early-turn : (n : ℕ) {x : Bool} {j r : ℕ} → x ≡ early I P k → j ≡ J .reader k → r ≡ cond x j n
+        → leastWhere (k + 1) n (early I P) (readerOf I) ≡ min (leastWhere k n (early I P) (readerOf I)) r
+    early-turn n g q e = least-turn n (early I P) (readerOf I) k e g (q ∙ sym (reader-at b J k h))
+
+  pub early-total : {n : ℕ} → n ≡ b .files → leastWhere n (b .tasks) (early I P) (readerOf I) ≡ firstBelow (taskCount I) (readsEarly I P)
+  early-total {n} e =
+      let z : leastWhere n (b .tasks) (early I P) (readerOf I) ≡ leastWhere (fileCount I) (taskCount I) (early I P) (readerOf I) = rw (file-count b J, task-count b J, e) in
+      z ∙ first-early I P
+
+  -- ---- makespan
+
+  pub span-total : {n : ℕ} → n ≡ b .tasks → maxBelow n (finishAt I P) ≡ makespan I P
+  unfolding makespan
+  span-total e = rw (task-count b J, e)
+
+  -- ---- the peaks
+
+  module _ (c : Colour) where
+    pub start-from : (k : ℕ) (x : Hold) {r : ℕ} → asHold x ≡ holdOf I P c k → r ≡ startOf (asHold x) → r ≡ startIn I P c k
+    start-from k x g e = rw g at e
+
+    pub peak-turn : (k : ℕ) {t r : ℕ} → t ≡ startIn I P c k → r ≡ held I P c t → maxBelow (k + 1) (heldAtStart I P c) ≡ max (maxBelow k (heldAtStart I P c)) r
+    peak-turn k {t} {r} g e = let z : r ≡ heldAtStart I P c k = rw g at e in omega (arith, max-next (heldAtStart I P c) k)
+
+    pub over-turn : (last k : ℕ) {t r : ℕ} {y : Bool} → t ≡ startIn I P c k → y ≡ over I P t → r ≡ cond y t last
+        → leastWhere (k + 1) last (overAtStart I P c) (startIn I P c) ≡ min (leastWhere k last (overAtStart I P c) (startIn I P c)) r
+    over-turn last k g q e = least-turn last (overAtStart I P c) (startIn I P c) k e (rw g at q) g
+
+    pub over-in-total : (last : ℕ) {n : ℕ} → n ≡ b .files → leastWhere n last (overAtStart I P c) (startIn I P c) ≡ firstOverIn I P c last
+    over-in-total last e = rw (file-count b J, e)
+
+    module _ (placed : Placed b L) where
+      maker-placed : (k : ℕ) → k < fileCount I → isPlaced (makerRun I P k) ≡ true
+      maker-placed k l =
+          let h : k < b .files = omega (arith, file-count b J) in
+          let g = f .job .maker k h in
+          rw (file-at b J k h, run-at b L (J .maker k) g) (lt-ltb 0 (L .processor (J .maker k)) (placed (J .maker k) g))
+
+      reader-placed : (k : ℕ) → k < fileCount I → isPlaced (readerRun I P k) ≡ true
+      reader-placed k l =
+          let h : k < b .files = omega (arith, file-count b J) in
+          let g = f .job .reader k h in
+          rw (file-at b J k h, run-at b L (J .reader k) g) (lt-ltb 0 (L .processor (J .reader k)) (placed (J .reader k) g))
+
+      pub peak-total : {n : ℕ} → n ≡ b .files → maxBelow n (heldAtStart I P c) ≡ peak I P c
+      peak-total {n} e =
+          let z : maxBelow n (heldAtStart I P c) ≡ maxBelow (fileCount I) (heldAtStart I P c) = rw (file-count b J, e) in
+          z ∙ peak-starts I P c (none-held I P c maker-placed reader-placed)
+
+  -- ---- 17
+
+  pub over-yes : (t : ℕ) {x : ℕ} → x ≡ held I P blue t → b .board .blue .limit < x → true ≡ over I P t
+  over-yes t {x} e l = sym (over-by I P blue t (omega (arith, limit-of b J true)))
+
+  pub over-rest : (t : ℕ) {x y : ℕ} → x ≡ held I P blue t → x ≤ b .board .blue .limit → y ≡ held I P red t → ltb (b .board .red .limit) y ≡ over I P t
+  over-rest t {x} {y} e l g =
+      let z = over-is I P t (sym (limit-of b J true)) (sym (limit-of b J false)) e g in
+      rw (le-ltb (b .board .blue .limit) x l) at z
+
+  pub over-total : {x y r : ℕ} (last : ℕ) → r ≡ min x y → x ≡ firstOverIn I P blue last → y ≡ firstOverIn I P red last → r ≡ firstBelow last (over I P)
+  over-total last e p q = rw (e, p, q) (first-over I P last)

@@ -1,0 +1,60 @@
+-- `peak` meets its contract. The invariant: the greatest total at the starts of the holds passed.
+use Prim.Native.Nat.{_≤_, _-_}
+use mathlib.Core.Path.{_≡_, sym}
+use native.Mathlib.Omega.{arith}
+use Rattle.rules.specs.Count.{maxBelow}
+use Rattle.model.specs.Layout.{jobOf, planOf, instanceFrom, scheduleFrom, colourBy, mostHeld}
+use Rattle.model.proofs.StepLaws.{max-none}
+use Rattle.validator.specs.Starts.{heldAtStart}
+use Rattle.validator.proofs.Loops.{peak-turn, peak-total}
+use borrow.Author.Needs.{needs}
+use Rattle.validator.proofs.memory.peak.Statement.{statement}
+use Rattle.validator.proofs.memory.peak.Tie as tie
+
+abbrev Inv-loop : tie.InvT-loop
+Inv-loop shape job plan blue most₀ i₀ most i =
+    (i ≤ shape .files) × (most ≤ mostHeld) × (most ≡ maxBelow i (heldAtStart (instanceFrom shape (jobOf job)) (scheduleFrom shape (planOf plan)) (colourBy blue)))
+
+abbrev μ-loop : tie.MeasureT-loop
+μ-loop shape job plan blue most₀ i₀ most i = shape .files - i
+
+loop-holds : tie.Need-loop-holds Inv-loop μ-loop
+loop-holds c = (omega arith, omega arith, sym (max-none _))
+
+hold-start-requires : tie.Need-hold-start-requires Inv-loop μ-loop
+hold-start-requires c κs = search needs
+
+held-at-requires : tie.Need-held-at-requires Inv-loop μ-loop
+held-at-requires c κs = search needs
+
+greater-requires : tie.Need-greater-requires Inv-loop μ-loop
+greater-requires c κs = search needs
+
+add-i : tie.Need-add-i Inv-loop μ-loop
+add-i c = search needs
+
+loop-less : tie.Need-loop-less Inv-loop μ-loop
+loop-less c = search needs
+
+loop-again : tie.Need-loop-again Inv-loop μ-loop
+loop-again c = let s = c .before .before .before .before .before .before in
+    omega (arith, peak-turn (s .pre .0) (colourBy (s .args .blue)) (c .before .before .before .before .before .loop .i) (c .before .before .hold-start .ensures) (c .before .held-at .ensures .0))
+
+returns : tie.Need-returns Inv-loop μ-loop
+returns c = let s = c .before .before .before in
+    omega (arith, peak-total (s .pre .0) (colourBy (s .args .blue)) (s .pre .1) {n = c .before .before .loop .i} (omega arith))
+
+pub peak-spec : {M : Type 1} → statement M
+peak-spec =
+    tie.close
+    (tie.spec
+    Inv-loop
+    μ-loop
+    loop-holds
+    hold-start-requires
+    held-at-requires
+    greater-requires
+    add-i
+    loop-less
+    loop-again
+    returns)

@@ -1,0 +1,57 @@
+-- `makespan` meets its contract. The invariant: the greatest finish of the tasks passed.
+use Prim.Native.Nat.{_≤_, _-_}
+use mathlib.Core.Path.{_≡_, sym}
+use native.Mathlib.Omega.{arith}
+use Rattle.rules.specs.Count.{maxBelow}
+use Rattle.rules.specs.Model.{finishAt}
+use Rattle.model.specs.Layout.{jobOf, planOf, instanceFrom, scheduleFrom, lastTick}
+use Rattle.model.proofs.StepLaws.{max-none, max-next}
+use Rattle.validator.proofs.Loops.{span-total}
+use borrow.Author.Needs.{needs}
+use Rattle.validator.proofs.timing.makespan.Statement.{statement}
+use Rattle.validator.proofs.timing.makespan.Tie as tie
+
+abbrev Inv-loop : tie.InvT-loop
+Inv-loop shape job plan most₀ i₀ most i =
+    (i ≤ shape .tasks) × (most ≤ lastTick) × (most ≡ maxBelow i (finishAt (instanceFrom shape (jobOf job)) (scheduleFrom shape (planOf plan))))
+
+abbrev μ-loop : tie.MeasureT-loop
+μ-loop shape job plan most₀ i₀ most i = shape .tasks - i
+
+loop-holds : tie.Need-loop-holds Inv-loop μ-loop
+loop-holds c = (omega arith, omega arith, sym (max-none _))
+
+finish-requires : tie.Need-finish-requires Inv-loop μ-loop
+finish-requires c κs = search needs
+
+greater-requires : tie.Need-greater-requires Inv-loop μ-loop
+greater-requires c κs = search needs
+
+add-i : tie.Need-add-i Inv-loop μ-loop
+add-i c = search needs
+
+loop-less : tie.Need-loop-less Inv-loop μ-loop
+loop-less c = search needs
+
+loop-again : tie.Need-loop-again Inv-loop μ-loop
+loop-again c = let s = c .before .before .before .before .before in
+    let i = c .before .before .before .before .loop .i in
+    omega (arith, max-next (finishAt (instanceFrom (s .args .shape) (jobOf (s .args .job .now))) (scheduleFrom (s .args .shape) (planOf (s .args .plan .now)))) i, c .before .finish .ensures .0)
+
+returns : tie.Need-returns Inv-loop μ-loop
+returns c = let s = c .before .before .before in
+    omega (arith, span-total (s .pre) {n = c .before .before .loop .i} (omega arith))
+
+pub makespan-spec : {M : Type 1} → statement M
+makespan-spec =
+    tie.close
+    (tie.spec
+    Inv-loop
+    μ-loop
+    loop-holds
+    finish-requires
+    greater-requires
+    add-i
+    loop-less
+    loop-again
+    returns)

@@ -1,0 +1,133 @@
+// The peaks of the memories and the first instant over a limit. A total rises only where a hold starts, so no other
+// instants are looked at.
+ghost use mathlib.Core.Path.{_≡_};
+ghost use Prim.Native.Nat.{_<_, _≤_, max};
+ghost use Rattle.rules.specs.Count.{firstBelow};
+ghost use Rattle.rules.specs.Model.{blue as rules-blue, red as rules-red};
+ghost use Rattle.rules.specs.Residency.{horizon};
+ghost use Rattle.rules.specs.Validity.{over, peak as rules-peak};
+ghost use Rattle.model.specs.Layout.{jobOf, planOf, instanceFrom, scheduleFrom, colourBy, Bounds, mostHeld};
+ghost use Rattle.model.specs.Holds.{asHold};
+ghost use Rattle.validator.specs.Starts.{startOf, startIn, firstOverIn};
+ghost use Rattle.validator.specs.Complete.{Placed};
+use model::choice::either;
+use model::choice::greater;
+use model::choice::lesser;
+use model::layout;
+use model::layout::Shape;
+use model::residency::Hold;
+use model::residency::held_at;
+use model::residency::hold_of;
+use model::residency::horizon_of;
+
+// The tick at which the hold starts, 0 if there is none.
+fn start_of(h: Hold) -> u64
+    ensures { λ r. ⌜ r ≡ startOf (asHold h) ⌝ }
+{
+    match h {
+        Hold::Never => 0,
+        Hold::During(from, _) => from,
+        Hold::Since(from) => from,
+    }
+}
+
+// When the hold of file k in the memory of the colour starts.
+fn hold_start<'a>(
+    shape: Shape,
+    job: &'a [u64; layout::JOB],
+    plan: &'a [u64; layout::PLAN],
+    k: usize,
+    blue: bool,
+) -> u64
+    requires { ⌜ Bounds shape (jobOf (now job)) (planOf (now plan)) ⌝ }
+    requires { ⌜ k < shape .files ⌝ }
+    ensures { λ r. ⌜ r ≡ startIn (instanceFrom shape (jobOf (now (job .entry)))) (scheduleFrom shape (planOf (now (plan .entry)))) (colourBy blue) k ⌝ }
+{
+    start_of(hold_of(shape, job, plan, k, blue))
+}
+
+// The greatest total held in the memory of the colour.
+pub fn peak<'a>(
+    shape: Shape,
+    job: &'a [u64; layout::JOB],
+    plan: &'a [u64; layout::PLAN],
+    blue: bool,
+) -> u64
+    requires { ⌜ Bounds shape (jobOf (now job)) (planOf (now plan)) ⌝ }
+    requires { ⌜ Placed shape (planOf (now plan)) ⌝ }
+    ensures { λ r. ⌜ r ≡ rules-peak (instanceFrom shape (jobOf (now (job .entry)))) (scheduleFrom shape (planOf (now (plan .entry)))) (colourBy blue) ⌝ }
+    ensures { λ r. ⌜ r ≤ mostHeld ⌝ }
+{
+    let mut most: u64 = 0;
+    let mut i: usize = 0;
+    while i < shape.files {
+        let t = hold_start(shape, job, plan, i, blue);
+        most = greater(most, held_at(shape, job, plan, blue, t));
+        i += 1;
+    }
+    most
+}
+
+// Whether a memory is over its limit at tick t.
+fn over_at<'a>(
+    shape: Shape,
+    job: &'a [u64; layout::JOB],
+    plan: &'a [u64; layout::PLAN],
+    t: u64,
+) -> bool
+    requires { ⌜ Bounds shape (jobOf (now job)) (planOf (now plan)) ⌝ }
+    ensures { λ r. ⌜ r ≡ over (instanceFrom shape (jobOf (now (job .entry)))) (scheduleFrom shape (planOf (now (plan .entry)))) t ⌝ }
+{
+    if shape.board.blue.limit < held_at(shape, job, plan, true, t) {
+        return true;
+    }
+    shape.board.red.limit < held_at(shape, job, plan, false, t)
+}
+
+// The least start of a hold in the memory of the colour at which a memory is over its limit, or `last`.
+fn first_over_in<'a>(
+    shape: Shape,
+    job: &'a [u64; layout::JOB],
+    plan: &'a [u64; layout::PLAN],
+    blue: bool,
+    last: u64,
+) -> u64
+    requires { ⌜ Bounds shape (jobOf (now job)) (planOf (now plan)) ⌝ }
+    ensures { λ r. ⌜ r ≡ firstOverIn (instanceFrom shape (jobOf (now (job .entry)))) (scheduleFrom shape (planOf (now (plan .entry)))) (colourBy blue) last ⌝ }
+{
+    let mut first: u64 = last;
+    let mut i: usize = 0;
+    while i < shape.files {
+        let t = hold_start(shape, job, plan, i, blue);
+        first = lesser(first, either(over_at(shape, job, plan, t), t, last));
+        i += 1;
+    }
+    first
+}
+
+// The first tick below `last` at which a memory is over its limit, or `last`.
+pub fn first_over<'a>(
+    shape: Shape,
+    job: &'a [u64; layout::JOB],
+    plan: &'a [u64; layout::PLAN],
+    last: u64,
+) -> u64
+    requires { ⌜ Bounds shape (jobOf (now job)) (planOf (now plan)) ⌝ }
+    ensures { λ r. ⌜ r ≡ firstBelow last (over (instanceFrom shape (jobOf (now (job .entry)))) (scheduleFrom shape (planOf (now (plan .entry))))) ⌝ }
+{
+    lesser(
+        first_over_in(shape, job, plan, true, last),
+        first_over_in(shape, job, plan, false, last),
+    )
+}
+
+// A tick from which on no memory changes any more.
+pub fn settled<'a>(shape: Shape, job: &'a [u64; layout::JOB], plan: &'a [u64; layout::PLAN]) -> u64
+    requires { ⌜ Bounds shape (jobOf (now job)) (planOf (now plan)) ⌝ }
+    ensures { λ r. ⌜ r ≡ max (horizon (instanceFrom shape (jobOf (now (job .entry)))) (scheduleFrom shape (planOf (now (plan .entry)))) rules-blue) (horizon (instanceFrom shape (jobOf (now (job .entry)))) (scheduleFrom shape (planOf (now (plan .entry)))) rules-red) ⌝ }
+{
+    greater(
+        horizon_of(shape, job, plan, true),
+        horizon_of(shape, job, plan, false),
+    )
+}

@@ -1,0 +1,90 @@
+// When files are made, moved and read, and when the schedule ends.
+ghost use mathlib.Core.Path.{_≡_};
+ghost use mathlib.Core.Bool.{cond, _||_};
+ghost use Prim.Native.Nat.{_<_, _≤_};
+ghost use lib.Dec.{ltb};
+ghost use Rattle.rules.specs.Count.{firstBelow};
+ghost use Rattle.rules.specs.Model.{taskCount};
+ghost use Rattle.rules.specs.Validity.{early, readsEarly, makespan as rules-makespan};
+ghost use Rattle.model.specs.Layout.{jobOf, planOf, instanceFrom, scheduleFrom, Bounds, lastTick};
+use model::choice::either;
+use model::choice::greater;
+use model::choice::lesser;
+use model::layout;
+use model::layout::Shape;
+use model::residency::finish;
+use model::residency::same;
+
+// Whether a file moves before it is made, or its reader starts before it arrived.
+fn too_early(moves: bool, made: u64, departs: u64, arrives: u64, starts: u64) -> bool
+    ensures { λ r. ⌜ r ≡ cond moves (ltb departs made || ltb starts arrives) (ltb starts made) ⌝ }
+{
+    if moves {
+        if departs < made {
+            return true;
+        }
+        return starts < arrives;
+    }
+    starts < made
+}
+
+// Whether file k is early.
+fn early_file<'a>(
+    shape: Shape,
+    job: &'a [u64; layout::JOB],
+    plan: &'a [u64; layout::PLAN],
+    k: usize,
+) -> bool
+    requires { ⌜ Bounds shape (jobOf (now job)) (planOf (now plan)) ⌝ }
+    requires { ⌜ k < shape .files ⌝ }
+    ensures { λ r. ⌜ r ≡ early (instanceFrom shape (jobOf (now (job .entry)))) (scheduleFrom shape (planOf (now (plan .entry)))) k ⌝ }
+{
+    let m = layout::maker(job, k) as usize;
+    let d = layout::reader(job, k) as usize;
+    let from = layout::on_blue(shape, plan, m);
+    let moves = !same(from, layout::on_blue(shape, plan, d));
+    let departs = layout::move_start(plan, k);
+    let arrives = departs + layout::move_time(job, k);
+    too_early(
+        moves,
+        finish(shape, job, plan, m),
+        departs,
+        arrives,
+        layout::start(plan, d),
+    )
+}
+
+// The lowest task that reads an early file, or the number of tasks.
+pub fn first_early<'a>(
+    shape: Shape,
+    job: &'a [u64; layout::JOB],
+    plan: &'a [u64; layout::PLAN],
+) -> u64
+    requires { ⌜ Bounds shape (jobOf (now job)) (planOf (now plan)) ⌝ }
+    ensures { λ r. ⌜ r ≡ firstBelow (taskCount (instanceFrom shape (jobOf (now (job .entry))))) (readsEarly (instanceFrom shape (jobOf (now (job .entry)))) (scheduleFrom shape (planOf (now (plan .entry))))) ⌝ }
+{
+    let tasks = shape.tasks as u64;
+    let mut first: u64 = tasks;
+    let mut i: usize = 0;
+    while i < shape.files {
+        let is_early = early_file(shape, job, plan, i);
+        first = lesser(first, either(is_early, layout::reader(job, i), tasks));
+        i += 1;
+    }
+    first
+}
+
+// The greatest finish: document 01's span.
+pub fn makespan<'a>(shape: Shape, job: &'a [u64; layout::JOB], plan: &'a [u64; layout::PLAN]) -> u64
+    requires { ⌜ Bounds shape (jobOf (now job)) (planOf (now plan)) ⌝ }
+    ensures { λ r. ⌜ r ≡ rules-makespan (instanceFrom shape (jobOf (now (job .entry)))) (scheduleFrom shape (planOf (now (plan .entry)))) ⌝ }
+    ensures { λ r. ⌜ r ≤ lastTick ⌝ }
+{
+    let mut most: u64 = 0;
+    let mut i: usize = 0;
+    while i < shape.tasks {
+        most = greater(most, finish(shape, job, plan, i));
+        i += 1;
+    }
+    most
+}
