@@ -1,0 +1,12 @@
+-- The laws that the proofs of this crate cite. Other crates cite those of AcceptedLaws.
+
+-- one line: what its numbers say
+pub mod ParseLaws
+-- the job array with one task or one file more
+pub mod JobLaws
+-- the line that is due
+pub mod BuildLaws
+-- the lines of a sheet
+pub mod ReadLaws
+-- an accepted sheet
+pub mod AcceptedLaws

@@ -1,0 +1,96 @@
+-- `instance::sheet::read` meets its contract: the first line is the board's, and the lines behind it are read by `rest_of`.
+use mathlib.Core.Path.{subst, refl, _∙_}
+use mathlib.Core.List.{[]}
+use Prim.Native.Nat.{ℕ}
+use native.Mathlib.Omega.{arith}
+use denote.Ref.{now}
+use lib.ListN.{length-take, length-drop, replicate}
+use Rattle.rules.specs.InstanceText.{withBoard}
+use Rattle.instance.specs.declared.build.Step.{Step}
+use Rattle.instance.specs.Steps.{jobLength, RoomIn}
+use Rattle.instance.proofs.ReadLaws.{told, sheet-long, sheet-unended, first-short, sheet-refused, sheet-begun}
+use borrow.Author.Needs.{needs}
+use Rattle.instance.proofs.sheet.read.Statement.{statement}
+use Rattle.instance.proofs.sheet.read.Tie as tie
+
+returns : tie.Need-returns
+returns c = sheet-long _ (c .if1 .taken)
+
+first-line-requires : tie.Need-first-line-requires
+first-line-requires c κs = search needs
+
+returns-2 : tie.Need-returns-2
+returns-2 c = sheet-unended (now (c .before .before .before .before .args .sheet)) (c .before .before .if1 .left) _ (c .before .first-line .ensures) (c .if2 .taken)
+
+parse-requires : tie.Need-parse-requires
+parse-requires c κs = search needs
+
+first-requires : tie.Need-first-requires
+first-requires c κs = search needs
+
+enum-known-fault : tie.Need-enum-known-fault
+enum-known-fault c = search needs
+
+enum-known-shape : tie.Need-enum-known-shape
+enum-known-shape c = search needs
+
+add-rest-of : tie.Need-add-rest-of
+add-rest-of c =
+    let f = c .before .before .before .before .before .before .before in
+    omega (arith, first-short (now (f .before .before .before .args .sheet)) (f .before .if1 .left) _ (f .first-line .ensures) (c .before .before .before .before .before .before .if2 .left))
+
+sub-rest-of : tie.Need-sub-rest-of
+sub-rest-of c =
+    let f = c .before .before .before .before .before .before .before in
+    omega (arith, first-short (now (f .before .before .before .args .sheet)) (f .before .if1 .left) _ (f .first-line .ensures) (c .before .before .before .before .before .before .if2 .left))
+
+part-rest-of-start : tie.Need-part-rest-of-start
+part-rest-of-start c =
+    let f = c .before .before .before .before .before .before .before in
+    omega (arith, first-short (now (f .before .before .before .args .sheet)) (f .before .if1 .left) _ (f .first-line .ensures) (c .before .before .before .before .before .before .if2 .left))
+
+part-rest-of-end : tie.Need-part-rest-of-end
+part-rest-of-end c = search needs
+
+rest-of-requires : tie.Need-rest-of-requires
+rest-of-requires c κs =
+    let zs = replicate {A = ℕ} jobLength 0 in
+    let a = c .before .before .before .before .before .before in
+    (subst (λ (s : Step). RoomIn s zs) (c .before .before .before .before .shape .given .1) (a .first .ensures .1 zs refl), simp (length-take, length-drop) (omega (arith, c .before .before .before .before .before .before .before .before .before .before .if1 .left)))
+
+returns-3 : tie.Need-returns-3
+returns-3 c =
+    let a = c .before .before .before in
+    let p = a .before in
+    let f = p .before .before in
+    sheet-refused (now (f .before .before .before .args .sheet)) (f .before .if1 .left) (now (f .first-line .result)) (f .first-line .ensures) (p .before .if2 .left) _
+    (told withBoard (p .parse .result) (now (f .first-line .result)) (a .first .result) _ [] (p .parse .ensures) (a .first .ensures .0 []) (c .before .fault .given .1))
+
+returns-4 : tie.Need-returns-4
+returns-4 c =
+    let zs = replicate {A = ℕ} jobLength 0 in
+    let a = c .before .before .before .before .before .before .before in
+    let p = a .before in
+    let f = p .before .before in
+    c .rest-of .ensures
+    ∙ sheet-begun (now (f .before .before .before .args .sheet)) (f .before .if1 .left) (now (f .first-line .result)) (f .first-line .ensures) (p .before .if2 .left) _
+    (told withBoard (p .parse .result) (now (f .first-line .result)) (a .first .result) _ zs (p .parse .ensures) (a .first .ensures .0 zs) (c .before .before .before .before .before .shape .given .1))
+
+pub read-spec : {M : Type 1} → statement M
+read-spec =
+    tie.close
+    (tie.spec
+    returns
+    first-line-requires
+    returns-2
+    parse-requires
+    first-requires
+    enum-known-fault
+    enum-known-shape
+    add-rest-of
+    sub-rest-of
+    part-rest-of-start
+    part-rest-of-end
+    rest-of-requires
+    returns-3
+    returns-4)

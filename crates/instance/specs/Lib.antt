@@ -1,0 +1,4 @@
+-- What the contracts of this crate cite besides the definitions of `rules`.
+pub mod Lines
+pub mod Steps
+pub mod Reads

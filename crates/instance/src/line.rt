@@ -1,0 +1,116 @@
+// A line of a board sheet, read.
+ghost use mathlib.Core.Path.{_≡_};
+ghost use mathlib.Core.List.{[], _∷_};
+ghost use Rattle.rules.specs.Text.{ended};
+ghost use Rattle.rules.specs.InstanceText.{asBoard, asTask, asFile, instanceLine};
+ghost use Rattle.instance.specs.Lines.{asReading};
+use rules::Board;
+use rules::Checked;
+use rules::Side;
+use rules::between;
+use text::Numbers;
+
+// What a line says, or its fault.
+pub enum Line {
+    Board {
+        board: Board,
+    },
+    Task {
+        i: u64,
+        blue: u64,
+        red: u64,
+    },
+    File {
+        i: u64,
+        j: u64,
+        size: u64,
+        time: u64,
+    },
+    Malformed,
+    OutOfRange,
+}
+
+// The board line of its numbers.
+fn board_of(blue: u64, bound: u64, red: u64, limit: u64) -> Line
+    ensures { λ r. ⌜ asReading r ≡ asBoard (blue ∷ bound ∷ red ∷ limit ∷ []) ⌝ }
+{
+    let first = Side {
+        processors: blue,
+        limit: bound,
+    };
+    let second = Side {
+        processors: red,
+        limit,
+    };
+    let Checked::Within(board) = Board::new(first, second) else {
+        return Line::OutOfRange;
+    };
+    Line::Board { board }
+}
+
+// The task line of its numbers.
+fn task_of(i: u64, blue: u64, red: u64) -> Line
+    ensures { λ r. ⌜ asReading r ≡ asTask (i ∷ blue ∷ red ∷ []) ⌝ }
+{
+    if !between(i, Board::MIN_TASK, Board::MAX_TASK) {
+        return Line::OutOfRange;
+    }
+    if !between(blue, Board::MIN_RUN_TIME, Board::MAX_RUN_TIME) {
+        return Line::OutOfRange;
+    }
+    if !between(red, Board::MIN_RUN_TIME, Board::MAX_RUN_TIME) {
+        return Line::OutOfRange;
+    }
+    Line::Task { i, blue, red }
+}
+
+// The file line of its numbers.
+fn file_of(i: u64, j: u64, size: u64, time: u64) -> Line
+    ensures { λ r. ⌜ asReading r ≡ asFile (i ∷ j ∷ size ∷ time ∷ []) ⌝ }
+{
+    if !between(i, Board::MIN_TASK, Board::MAX_TASK) {
+        return Line::OutOfRange;
+    }
+    if !between(j, Board::MIN_TASK, Board::MAX_TASK) {
+        return Line::OutOfRange;
+    }
+    if !between(size, Board::MIN_SIZE, Board::MAX_SIZE) {
+        return Line::OutOfRange;
+    }
+    if !between(time, Board::MIN_MOVE_TIME, Board::MAX_MOVE_TIME) {
+        return Line::OutOfRange;
+    }
+    Line::File { i, j, size, time }
+}
+
+// What a line says, by the form that it has.
+pub fn parse(line: &[u8]) -> Line
+    ensures { λ r. ⌜ asReading r ≡ instanceLine (ended (now (line .entry))) ⌝ }
+{
+    if let Numbers::Are {
+        first,
+        second,
+        third,
+        fourth,
+    } = text::scan(b"(board (blue # #) (red # #))", line) {
+        return board_of(first, second, third, fourth);
+    }
+    if let Numbers::Are {
+        first,
+        second,
+        third,
+        fourth: _,
+    } = text::scan(b"(task # # #)", line) {
+        return task_of(first, second, third);
+    }
+    let Numbers::Are {
+        first,
+        second,
+        third,
+        fourth,
+    } = text::scan(b"(file # # # #)", line)
+    else {
+        return Line::Malformed;
+    };
+    file_of(first, second, third, fourth)
+}

@@ -1,0 +1,65 @@
+-- The whole timetable: the runs, the moves and the claim, one after the other; and what a caller knows of the plan that was read.
+use Prim.Native.Nat.{ℕ, suc, _≤_, _<_}
+use mathlib.Core.Path.{_≡_, sym, ap, subst, _∙_}
+use mathlib.Core.List.{List}
+use native.Mathlib.Omega.{arith}
+use borrow.Author.Tests.{le-leb, lt-leb}
+use lib.ListN.{length, drop}
+use Rattle.rules.specs.Limits.{maxText}
+use Rattle.rules.specs.Model.{Instance, Schedule, taskCount, fileCount}
+use Rattle.rules.specs.Text.{tooLong, linesOf}
+use Rattle.rules.specs.Validity.{Claim}
+use Rattle.rules.specs.Promises.{Spellable}
+use Rattle.rules.specs.ScheduleText.{ScheduleRead, refused, read, readClaim, readMoves, readRuns, readSchedule}
+use Rattle.rules.proofs.TimetableOnlyLaws.{read-only}
+use Rattle.text.specs.declared.faults.Fault.{Fault}
+use Rattle.text.specs.Faults.{asFault}
+use Rattle.model.specs.declared.layout.Shape.{Shape}
+use Rattle.model.specs.Layout.{Job, Plan, instanceFrom, scheduleFrom, PlanBounds}
+use Rattle.model.proofs.LayoutLaws.{task-count, file-count, run-at, move-at}
+use Rattle.schedule.specs.declared.reader.Progress.{Progress}
+use Rattle.schedule.specs.declared.reader.Progress.the-variants.{At, Refused}
+use Rattle.schedule.specs.Reading.{goesOn, InText, nothing}
+
+-- ---- how far the text is read
+pub in-text : (bs : List ℕ) (most at k : ℕ) (r : Progress) → r ≡ At at k → InText bs most r → (at ≤ length bs) × (k ≤ suc most)
+in-text bs most at k r e h = subst (InText bs most) e h
+
+module _ (I : Instance) (bs : List ℕ) where
+  pub read-long : maxText < length bs → refused tooLong 0 ≡ readSchedule I bs
+  unfolding readSchedule
+  read-long h = rw (lt-leb _ _ h, readSchedule)
+
+  module _ (h : length bs ≤ maxText) where
+    read-short : readSchedule I bs ≡ readRuns I (taskCount I) nothing 1 (linesOf bs)
+    unfolding readSchedule
+    read-short = rw (le-leb _ _ h, readSchedule)
+
+    module _ (P Q : Schedule) (runs moves : Progress) (e : goesOn (readMoves I (fileCount I) Q) bs runs ≡ readRuns I (taskCount I) nothing 1 (linesOf bs)) where
+      from-runs : {x : ScheduleRead} → x ≡ goesOn (readMoves I (fileCount I) Q) bs runs → x ≡ readSchedule I bs
+      from-runs r = r ∙ e ∙ sym read-short
+
+      pub runs-refused : (f : Fault) (k : ℕ) → runs ≡ Refused f k → refused (asFault f) k ≡ readSchedule I bs
+      runs-refused f k r = from-runs (ap (goesOn (readMoves I (fileCount I) Q) bs) (sym r))
+
+      module _ (at k : ℕ) (r : runs ≡ At at k) (g : goesOn (readClaim I P) bs moves ≡ readMoves I (fileCount I) Q k (linesOf (drop at bs))) where
+        from-moves : {x : ScheduleRead} → x ≡ goesOn (readClaim I P) bs moves → x ≡ readSchedule I bs
+        from-moves m = from-runs (m ∙ g ∙ ap (goesOn (readMoves I (fileCount I) Q) bs) (sym r))
+
+        pub moves-refused : (f : Fault) (j : ℕ) → moves ≡ Refused f j → refused (asFault f) j ≡ readSchedule I bs
+        moves-refused f j m = from-moves (ap (goesOn (readClaim I P) bs) (sym m))
+
+        pub claim-answers : (end j : ℕ) → moves ≡ At end j → (x : ScheduleRead) → x ≡ readClaim I P j (linesOf (drop end bs)) → x ≡ readSchedule I bs
+        claim-answers end j m x c = from-moves (c ∙ ap (goesOn (readClaim I P) bs) (sym m))
+
+-- ---- what is read is complete, with every number in its range
+module _ (b : Shape) (J : Job) (L : Plan) (c : Claim) where
+  pub read-spellable : (bs : List ℕ) → readSchedule (instanceFrom b J) bs ≡ read (scheduleFrom b L) c → Spellable (instanceFrom b J) (scheduleFrom b L) c
+  read-spellable bs e = read-only (instanceFrom b J) (scheduleFrom b L) c bs e .0
+
+  pub plan-bounds : Spellable (instanceFrom b J) (scheduleFrom b L) c → PlanBounds b L
+  plan-bounds s =
+      record {
+        start = λ i h. omega (arith, s .starts i (omega (arith, task-count b J)) .most, ap (λ r. r .start) (run-at b L i h));
+        moveStart = λ k h. omega (arith, s .moveStarts k (omega (arith, file-count b J)) .most, move-at b L k h);
+      }

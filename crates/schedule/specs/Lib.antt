@@ -1,0 +1,3 @@
+-- What the contracts of this crate cite besides the definitions of `rules`.
+pub mod Lines
+pub mod Reading

@@ -1,0 +1,143 @@
+// What a line of a timetable says.
+ghost use mathlib.Core.Path.{_≡_};
+ghost use mathlib.Core.Bool.{_&&_};
+ghost use mathlib.Core.List.{[], _∷_};
+ghost use Rattle.rules.specs.Text.{ended, faultOf};
+ghost use Rattle.rules.specs.ScheduleText.{asRun, asMove, asClaim as claimFrom, scheduleLine};
+ghost use Rattle.model.specs.Layout.{Job, instanceFrom};
+ghost use Rattle.text.specs.Faults.{asFault};
+ghost use Rattle.schedule.specs.Lines.{Processors, asReading};
+use model::claim::Claim;
+use model::layout::Shape;
+use rules::Board;
+use rules::between;
+use text::Fault;
+use text::Numbers;
+
+pub enum Line {
+    Run { i: u64, processor: u64, start: u64 },
+    Move { i: u64, j: u64, start: u64 },
+    Claim { claim: Claim },
+    // none of the three forms
+    Malformed,
+    // one of them, with a number out of its range
+    OutOfRange,
+}
+
+// Whether all three hold.
+fn all(a: bool, b: bool, c: bool) -> bool
+    ensures { λ r. ⌜ r ≡ a && b && c ⌝ }
+{
+    if a {
+        if b {
+            return c;
+        }
+    }
+    false
+}
+
+// The numbers of a run line; processors are counted from 1, over both colours.
+fn run_of(shape: Shape, i: u64, processor: u64, start: u64) -> Line
+    requires { ⌜ Processors shape ⌝ }
+    ensures { λ r. ⌜ ((J : Job) → asReading r ≡ asRun (instanceFrom shape J) (i ∷ processor ∷ start ∷ [])) ⌝ }
+{
+    let processors = shape.board.blue.processors + shape.board.red.processors;
+    if all(
+        between(i, Board::MIN_TASK, Board::MAX_TASK),
+        between(processor, 1, processors),
+        between(start, Board::MIN_TICK, Board::MAX_TICK),
+    ) {
+        return Line::Run {
+            i,
+            processor,
+            start,
+        };
+    }
+    Line::OutOfRange
+}
+
+// The numbers of a move line.
+fn move_of(i: u64, j: u64, start: u64) -> Line
+    ensures { λ r. ⌜ asReading r ≡ asMove (i ∷ j ∷ start ∷ []) ⌝ }
+{
+    if all(
+        between(i, Board::MIN_TASK, Board::MAX_TASK),
+        between(j, Board::MIN_TASK, Board::MAX_TASK),
+        between(start, Board::MIN_TICK, Board::MAX_TICK),
+    ) {
+        return Line::Move { i, j, start };
+    }
+    Line::OutOfRange
+}
+
+// The numbers of a claim line.
+fn claim_of(span: u64, blue_peak: u64, red_peak: u64) -> Line
+    ensures { λ r. ⌜ asReading r ≡ claimFrom (span ∷ «blue_peak» ∷ «red_peak» ∷ []) ⌝ }
+{
+    if all(
+        between(span, Board::MIN_TICK, Board::MAX_TICK),
+        between(blue_peak, Board::MIN_TICK, Board::MAX_TICK),
+        between(red_peak, Board::MIN_TICK, Board::MAX_TICK),
+    ) {
+        let claim = Claim {
+            span,
+            blue_peak,
+            red_peak,
+        };
+        return Line::Claim { claim };
+    }
+    Line::OutOfRange
+}
+
+// A line, without its LF: the first form that it has.
+pub fn parse(shape: Shape, line: &[u8]) -> Line
+    requires { ⌜ Processors shape ⌝ }
+    ensures { λ r. ⌜ ((J : Job) → asReading r ≡ scheduleLine (instanceFrom shape J) (ended (now (line .entry)))) ⌝ }
+{
+    if let Numbers::Are {
+        first,
+        second,
+        third,
+        fourth: _,
+    } = text::scan(b"(run # # #)", line) {
+        return run_of(shape, first, second, third);
+    }
+    if let Numbers::Are {
+        first,
+        second,
+        third,
+        fourth: _,
+    } = text::scan(b"(move # # #)", line) {
+        return move_of(first, second, third);
+    }
+    if let Numbers::Are {
+        first,
+        second,
+        third,
+        fourth: _,
+    } = text::scan(b"(claim # # #)", line) {
+        return claim_of(first, second, third);
+    }
+    Line::Malformed
+}
+
+// The fault of a line that is not the one due.
+pub fn fault_of(line: Line) -> Fault
+    ensures { λ r. ⌜ asFault r ≡ faultOf (asReading line) ⌝ }
+{
+    match line {
+        Line::Run {
+            i: _,
+            processor: _,
+            start: _,
+        } => Fault::Undue,
+        Line::Move {
+            i: _,
+            j: _,
+            start: _,
+        } => Fault::Undue,
+        Line::Claim { claim: _ } => Fault::Undue,
+        Line::Malformed => Fault::Malformed,
+        Line::OutOfRange => Fault::OutOfRange,
+    }
+}

@@ -1,0 +1,206 @@
+// Reads a timetable: its due lines, one after the other.
+ghost use mathlib.Core.Path.{_≡_};
+ghost use mathlib.Core.Bool.{not};
+ghost use Prim.Native.Nat.{_+_, _<_, _≤_};
+ghost use lib.Dec.{leb};
+ghost use lib.ListN.{length, drop, set};
+ghost use Rattle.rules.specs.Limits.{maxTasks, maxFiles};
+ghost use Rattle.rules.specs.Model.{Schedule, sameColour, taskCount, fileCount};
+ghost use Rattle.rules.specs.Text.{linesOf};
+ghost use Rattle.rules.specs.ScheduleText.{readClaim, readMoves, readRuns, readSchedule};
+ghost use Rattle.model.specs.Layout.{Job, jobOf, planOf, instanceFrom, scheduleFrom, colourBy, JobBounds};
+ghost use Rattle.schedule.specs.Lines.{Processors, asReading};
+ghost use Rattle.schedule.specs.Reading.{LineAt, asRead, goesOn, InText, nothing, runsOf};
+use model::claim::Claim;
+use crate::lines::Line;
+use crate::lines::fault_of;
+use crate::lines::parse;
+use model::layout;
+use model::layout::Shape;
+use model::residency::same;
+use rules::Board;
+use text::Fault;
+
+// A timetable with its claim, or its fault and the number of the line.
+pub enum ScheduleRead {
+    Read(Claim),
+    Refused(Fault, u64),
+}
+
+// How far the text is read: where the next line starts and its number, or a fault and its line's number.
+enum Progress {
+    At(usize, u64),
+    Refused(Fault, u64),
+}
+
+// A line, and where the next one starts.
+struct Cut {
+    said: Line,
+    next: usize,
+}
+
+// The line that starts at `at`; malformed if it is absent or lacks its LF.
+fn line_at(shape: Shape, paper: &[u8], at: usize) -> Cut
+    requires { ⌜ Processors shape ⌝ }
+    requires { ⌜ at ≤ length (now paper) ⌝ }
+    ensures { λ r. ⌜ ((J : Job) → LineAt (instanceFrom shape J) (now (paper .entry)) at (asReading (r .said)) (r .next)) ⌝ }
+    ensures { λ r. ⌜ r .next ≤ length (now (paper .entry)) ⌝ }
+{
+    let rest = &paper[at..];
+    let line = text::first_line(rest);
+    if rest.len() <= line.len() {
+        return Cut {
+            said: Line::Malformed,
+            next: paper.len(),
+        };
+    }
+    Cut {
+        said: parse(shape, line),
+        next: at + line.len() + 1,
+    }
+}
+
+// Stores a number in a plan array. Lent as a slice, the array shows how long it is.
+fn store(plan: &mut [u64], at: usize, number: u64)
+    requires { ⌜ at < length (now plan) ⌝ }
+    ensures { λ _. ⌜ now (plan .exit) ≡ set (now (plan .entry)) at number ⌝ }
+{
+    plan[at] = number;
+}
+
+// Reads the runs, a line for each task, into the plan.
+fn read_runs(shape: Shape, paper: &[u8], plan: &mut [u64; layout::PLAN]) -> Progress
+    requires { ⌜ Processors shape ⌝ }
+    requires { ⌜ shape .tasks ≤ maxTasks ⌝ }
+    ensures { λ r. ⌜ ((J : Job) → goesOn (readMoves (instanceFrom shape J) (fileCount (instanceFrom shape J)) (runsOf (shape .tasks) (planOf (now (plan .exit))))) (now (paper .entry)) r ≡ readRuns (instanceFrom shape J) (taskCount (instanceFrom shape J)) nothing 1 (linesOf (now (paper .entry)))) ⌝ }
+    ensures { λ r. ⌜ InText (now (paper .entry)) maxTasks r ⌝ }
+{
+    let mut at = 0;
+    let mut i: usize = 0;
+    while i < shape.tasks {
+        let k = (i + 1) as u64;
+        let cut = line_at(shape, paper, at);
+        let said = cut.said;
+        let Line::Run {
+            i: task,
+            processor,
+            start,
+        } = said
+        else {
+            return Progress::Refused(fault_of(said), k);
+        };
+        if task != k {
+            return Progress::Refused(Fault::Undue, k);
+        }
+        store(plan, i, processor);
+        store(plan, layout::START + i, start);
+        at = cut.next;
+        i += 1;
+    }
+    Progress::At(at, (i + 1) as u64)
+}
+
+// Whether tasks i and j run in memories of different colour.
+fn crosses(shape: Shape, plan: &[u64; layout::PLAN], i: usize, j: usize) -> bool
+    requires { ⌜ (i < maxTasks) × (j < maxTasks) ⌝ }
+    ensures { λ r. ⌜ r ≡ not (sameColour (colourBy (leb (planOf (now (plan .entry)) .processor i) (shape .board .blue .processors))) (colourBy (leb (planOf (now (plan .entry)) .processor j) (shape .board .blue .processors)))) ⌝ }
+{
+    !same(
+        layout::on_blue(shape, plan, i),
+        layout::on_blue(shape, plan, j),
+    )
+}
+
+// Reads the moves into the plan, from `from` on: a line, the first of which has the number `line`, for each file
+// whose tasks run in memories of different colour. The move start of any other file is 0.
+fn read_moves<'a>(
+    shape: Shape,
+    job: &'a [u64; layout::JOB],
+    paper: &'a [u8],
+    plan: &mut [u64; layout::PLAN],
+    from: usize,
+    line: u64,
+) -> Progress
+    requires { ⌜ JobBounds shape (jobOf (now job)) ⌝ }
+    requires { ⌜ (from ≤ length (now paper)) × (line ≤ maxTasks + 1) ⌝ }
+    ensures { λ r. ⌜ goesOn (readClaim (instanceFrom shape (jobOf (now (job .entry)))) (scheduleFrom shape (planOf (now (plan .exit))))) (now (paper .entry)) r ≡ readMoves (instanceFrom shape (jobOf (now (job .entry)))) (fileCount (instanceFrom shape (jobOf (now (job .entry))))) (runsOf (shape .tasks) (planOf (now (plan .entry)))) line (linesOf (drop from (now (paper .entry)))) ⌝ }
+    ensures { λ r. ⌜ InText (now (paper .entry)) (maxTasks + maxFiles) r ⌝ }
+{
+    let mut at = from;
+    let mut k = line;
+    let mut i: usize = 0;
+    while i < shape.files {
+        let maker = layout::maker(job, i);
+        let reader = layout::reader(job, i);
+        if crosses(shape, plan, maker as usize, reader as usize) {
+            let cut = line_at(shape, paper, at);
+            let said = cut.said;
+            let Line::Move {
+                i: from_task,
+                j: to_task,
+                start,
+            } = said
+            else {
+                return Progress::Refused(fault_of(said), k);
+            };
+            if from_task != maker + 1 {
+                return Progress::Refused(Fault::Undue, k);
+            }
+            if to_task != reader + 1 {
+                return Progress::Refused(Fault::Undue, k);
+            }
+            store(plan, layout::MOVE_START + i, start);
+            at = cut.next;
+            k += 1;
+            i += 1;
+        } else {
+            store(plan, layout::MOVE_START + i, 0);
+            i += 1;
+        }
+    }
+    Progress::At(at, k)
+}
+
+// Reads the claim, the line with the number k; nothing is due behind it.
+fn read_claim(shape: Shape, paper: &[u8], at: usize, k: u64) -> ScheduleRead
+    requires { ⌜ Processors shape ⌝ }
+    requires { ⌜ (at ≤ length (now paper)) × (k ≤ maxTasks + maxFiles + 1) ⌝ }
+    ensures { λ r. ⌜ ((J : Job) (P : Schedule) → asRead P r ≡ readClaim (instanceFrom shape J) P k (linesOf (drop at (now (paper .entry))))) ⌝ }
+{
+    let cut = line_at(shape, paper, at);
+    let said = cut.said;
+    let Line::Claim { claim } = said else {
+        return ScheduleRead::Refused(fault_of(said), k);
+    };
+    let next = cut.next;
+    if next < paper.len() {
+        let more = line_at(shape, paper, next);
+        let extra = more.said;
+        return ScheduleRead::Refused(fault_of(extra), k + 1);
+    }
+    ScheduleRead::Read(claim)
+}
+
+// Reads a timetable into the plan.
+pub fn read<'a>(
+    shape: Shape,
+    job: &'a [u64; layout::JOB],
+    paper: &'a [u8],
+    plan: &mut [u64; layout::PLAN],
+) -> ScheduleRead
+    requires { ⌜ JobBounds shape (jobOf (now job)) ⌝ }
+    ensures { λ r. ⌜ asRead (scheduleFrom shape (planOf (now (plan .exit)))) r ≡ readSchedule (instanceFrom shape (jobOf (now (job .entry)))) (now (paper .entry)) ⌝ }
+{
+    if Board::MAX_TEXT < paper.len() {
+        return ScheduleRead::Refused(Fault::TooLong, 0);
+    }
+    match read_runs(shape, paper, plan) {
+        Progress::Refused(fault, k) => ScheduleRead::Refused(fault, k),
+        Progress::At(runs_end, runs_next) => {
+            match read_moves(shape, job, paper, plan, runs_end, runs_next) {
+                Progress::Refused(fault, k) => ScheduleRead::Refused(fault, k),
+                Progress::At(at, k) => read_claim(shape, paper, at, k),
+            }
+        }
+    }
+}
