@@ -11,10 +11,10 @@ ghost use Rattle.rules.specs.ScheduleText.{readClaim, readMoves, readRuns, read
 ghost use Rattle.model.specs.Layout.{Job, jobOf, planOf, instanceFrom, scheduleFrom, colourBy, JobBounds};
 ghost use Rattle.schedule.specs.Lines.{Processors, asReading};
 ghost use Rattle.schedule.specs.Reading.{LineAt, asRead, goesOn, InText, nothing, runsOf};
-use model::claim::Claim;
 use crate::lines::Line;
 use crate::lines::fault_of;
 use crate::lines::parse;
+use model::claim::Claim;
 use model::layout;
 use model::layout::Shape;
 use model::residency::same;

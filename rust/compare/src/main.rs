@@ -1,0 +1,160 @@
+//! Compares the proved library with an implementation of document 01 of its own, on sound and damaged texts from a fixed seed.
+//! Prints how often each answer was reached; ends with an error at the first difference, or where an answer was never reached.
+
+mod generate;
+mod reference;
+
+use frames::Planner;
+use generate::Random;
+use std::collections::BTreeMap;
+
+struct Tally {
+    marks: BTreeMap<u64, (u64, std::collections::BTreeSet<u64>)>,
+    plans: BTreeMap<u64, (u64, std::collections::BTreeSet<u64>)>,
+    cases: u64,
+}
+
+fn show(text: &[u8]) -> String {
+    String::from_utf8_lossy(&text[..text.len().min(2000)]).into_owned()
+}
+
+impl Tally {
+    fn mark(&mut self, sheet: &[u8], paper: &[u8]) {
+        self.cases += 1;
+        let want = reference::mark(sheet, paper);
+        let got = match frames::mark(sheet, paper) {
+            Ok(m) => [0, 0, m.span, m.blue_peak, m.red_peak],
+            Err(r) => [r.number, r.place, 0, 0, 0],
+        };
+        if got != want || frames::fault_line(sheet, paper) != reference::fault_line(sheet, paper) {
+            panic!("mark differs: {got:?}, wanted {want:?}\nsheet:\n{}\npaper:\n{}", show(sheet), show(paper));
+        }
+        let seen = self.marks.entry(got[0]).or_default();
+        seen.0 += 1;
+        seen.1.insert(got[1]);
+    }
+
+    /// A planner with a buffer of a length, filled with a pattern; what it wrote, if it succeeded.
+    fn plan(&mut self, heft: bool, sheet: &[u8], want: &reference::Planned, room: usize) -> Option<Vec<u8>> {
+        self.cases += 1;
+        let planner = if heft { Planner::MemHeft } else { Planner::MemMinMin };
+        let pattern: Vec<u8> = (0..room).map(|i| (i * 7 + 13) as u8).collect();
+        let mut out = pattern.clone();
+        let got = frames::plan_into(planner, sheet, &mut out);
+        let short = want.number == 0 && room < want.text.len();
+        let number = if short { 31 } else { want.number };
+        let mut bytes = pattern;
+        if number == 0 {
+            bytes[..want.text.len()].copy_from_slice(&want.text);
+        }
+        if (got.number, got.place, got.trials) != (number, want.place, want.trials) || out != bytes {
+            panic!(
+                "{planner:?} differs with {room} bytes: {got:?}, wanted {number} {} {}\nsheet:\n{}\nwrote:\n{}\nwanted:\n{}",
+                want.place,
+                want.trials,
+                show(sheet),
+                show(&out),
+                show(&want.text)
+            );
+        }
+        let seen = self.plans.entry(number).or_default();
+        seen.0 += 1;
+        seen.1.insert(got.place);
+        (number == 0).then(|| want.text.clone())
+    }
+
+    /// Both planners with buffers around the exact length, and what they wrote marked on the sheet.
+    fn planners(&mut self, r: &mut Random, sheet: &[u8]) -> Option<Vec<u8>> {
+        let mut paper = None;
+        for heft in [true, false] {
+            let want = reference::plan(heft, sheet);
+            let n = want.text.len();
+            for room in [n + r.below(40), n, n.saturating_sub(1 + r.below(20))] {
+                if let Some(text) = self.plan(heft, sheet, &want, room) {
+                    self.mark(sheet, &text);
+                    paper = Some(text);
+                }
+            }
+        }
+        paper
+    }
+
+    fn print(&self, name: &str, all: &BTreeMap<u64, (u64, std::collections::BTreeSet<u64>)>, due: &[u64]) -> bool {
+        let mut ok = true;
+        for number in due {
+            let (count, places) = all.get(number).map_or((0, 0), |s| (s.0, s.1.len()));
+            println!("{name} {number}: {count} cases at {places} places");
+            ok &= count > 0;
+        }
+        ok
+    }
+}
+
+fn edges(t: &mut Tally) {
+    let course = b"(board (blue 1 6) (red 1 6))\n(task 1 4 2)\n(task 2 3 5)\n(task 3 2 6)\n(file 1 2 2 1)\n(file 1 3 3 2)\n";
+    let paper = b"(run 1 2 0)\n(run 2 1 3)\n(run 3 1 6)\n(move 1 2 2)\n(move 1 3 4)\n(claim 8 5 5)\n";
+    for n in [32_767, 32_768, 32_769, 70_000] {
+        for byte in [b'\n', b'(', 0u8] {
+            let long = vec![byte; n];
+            t.mark(&long, paper);
+            t.mark(course, &long);
+            t.plan(true, &long, &reference::plan(true, &long), 100);
+            let mut behind = course.to_vec();
+            behind.resize(n, byte);
+            t.mark(&behind, paper);
+        }
+    }
+    for room in 0..120 {
+        for heft in [true, false] {
+            t.plan(heft, course, &reference::plan(heft, course), room);
+        }
+    }
+    t.mark(b"", b"");
+    t.mark(course, b"");
+    t.mark(course, paper);
+}
+
+fn main() {
+    let rounds: u64 = std::env::args().nth(1).map_or(4000, |a| a.parse().expect("a number of rounds"));
+    let mut t = Tally { marks: BTreeMap::new(), plans: BTreeMap::new(), cases: 0 };
+    edges(&mut t);
+    let mut r = Random(20_261_115);
+    for round in 0..rounds {
+        let most = if round % 50 == 0 { 64 } else { 7 };
+        let sheet = generate::sheet(&mut r, most).into_bytes();
+        let written = t.planners(&mut r, &sheet);
+        let read = reference::read_sheet(&sheet).expect("a sound sheet");
+        for _ in 0..3 {
+            let table = generate::table(&mut r, &read);
+            let paper = reference::write_table(&read, &table).into_bytes();
+            t.mark(&sheet, &paper);
+            t.mark(&sheet, generate::shifted(&mut r, &read, &table).as_bytes());
+            t.mark(&sheet, &generate::damaged(&mut r, &paper));
+            let twice = generate::damaged(&mut r, &paper);
+            t.mark(&sheet, &generate::damaged(&mut r, &twice));
+        }
+        if let Some(paper) = written {
+            for _ in 0..3 {
+                t.mark(&sheet, &generate::damaged(&mut r, &paper));
+            }
+            let bad = generate::damaged(&mut r, &sheet);
+            t.mark(&bad, &paper);
+        }
+        let bad = generate::damaged(&mut r, &sheet);
+        t.planners(&mut r, &bad);
+        let noise = generate::noise(&mut r);
+        t.mark(&noise, &sheet);
+        t.mark(&sheet, &noise);
+    }
+    for tasks in [8, 24, 32, 48, 64] {
+        let sheet = generate::large_sheet(&mut r, tasks).into_bytes();
+        t.planners(&mut r, &sheet);
+    }
+    let mut ok = t.print("marker", &t.marks, &[0, 1, 2, 3, 4, 11, 12, 13, 14, 15, 16, 17, 18]);
+    ok &= t.print("planner", &t.plans, &[0, 1, 2, 3, 4, 21, 31]);
+    println!("{} cases, no difference", t.cases);
+    if !ok {
+        eprintln!("an answer was never reached");
+        std::process::exit(1);
+    }
+}

@@ -1,0 +1,477 @@
+//! An implementation of document 01 for tests, written from the document in another way than the proved code:
+//! texts are split into words, memory is a list of changes sorted by tick, weights are by recursion.
+
+use std::collections::BTreeMap;
+
+pub const MAX_TEXT: usize = 32_768;
+
+pub type Refused = (u64, u64);
+
+#[derive(Clone, Debug)]
+pub struct File {
+    pub maker: usize,
+    pub reader: usize,
+    pub size: i64,
+    pub time: i64,
+}
+
+#[derive(Clone, Debug)]
+pub struct Sheet {
+    pub processors: [i64; 2],
+    pub limits: [i64; 2],
+    /// run times on blue and on red
+    pub tasks: Vec<[i64; 2]>,
+    pub files: Vec<File>,
+}
+
+#[derive(Clone, Debug)]
+pub struct Table {
+    /// processor from 1, and start; None where not placed
+    pub runs: Vec<Option<(i64, i64)>>,
+    pub moves: Vec<i64>,
+}
+
+// ---- text
+
+/// The lines of a text, each with whether it has its LF.
+fn lines(text: &[u8]) -> Vec<(&[u8], bool)> {
+    let mut all: Vec<(&[u8], bool)> = text.split(|b| *b == b'\n').map(|l| (l, true)).collect();
+    let (last, _) = all.pop().unwrap();
+    if !last.is_empty() {
+        all.push((last, false));
+    }
+    all
+}
+
+/// The numbers of a line, if it is `words` with a numeral for each `#`.
+fn numbers(line: &[u8], words: &str) -> Option<Vec<i64>> {
+    let text = std::str::from_utf8(line).ok()?;
+    let got: Vec<&str> = text.split(' ').collect();
+    let want: Vec<&str> = words.split(' ').collect();
+    if got.len() != want.len() {
+        return None;
+    }
+    let mut all = Vec::new();
+    for (g, w) in got.iter().zip(&want) {
+        if let Some(hash) = w.find('#') {
+            let (front, back) = (&w[..hash], &w[hash + 1..]);
+            let inner = g.strip_prefix(front)?.strip_suffix(back)?;
+            let digits = inner.bytes().all(|b| b.is_ascii_digit());
+            if inner.is_empty() || !digits || inner.len() > 9 || (inner.len() > 1 && inner.starts_with('0')) {
+                return None;
+            }
+            all.push(inner.parse().unwrap());
+        } else if g != w {
+            return None;
+        }
+    }
+    Some(all)
+}
+
+fn all_in(pairs: &[(i64, i64, i64)]) -> bool {
+    pairs.iter().all(|(n, least, most)| least <= n && n <= most)
+}
+
+/// A readable line: which of the three forms, and its numbers.
+fn readable(line: (&[u8], bool), forms: [&str; 3], ranges: impl Fn(usize) -> Vec<(i64, i64)>, base: u64) -> Result<(usize, Vec<i64>), u64> {
+    if !line.1 {
+        return Err(base + 2);
+    }
+    for (kind, form) in forms.iter().enumerate() {
+        if let Some(vs) = numbers(line.0, form) {
+            let limits = ranges(kind);
+            let pairs: Vec<(i64, i64, i64)> = vs.iter().zip(&limits).map(|(v, (a, b))| (*v, *a, *b)).collect();
+            return if all_in(&pairs) { Ok((kind, vs)) } else { Err(base + 3) };
+        }
+    }
+    Err(base + 2)
+}
+
+const BIG: i64 = 999_999_999;
+
+pub fn read_sheet(text: &[u8]) -> Result<Sheet, Refused> {
+    if text.len() > MAX_TEXT {
+        return Err((1, 0));
+    }
+    let forms = ["(board (blue # #) (red # #))", "(task # # #)", "(file # # # #)"];
+    let ranges = |kind: usize| match kind {
+        0 => vec![(1, 8), (0, BIG), (1, 8), (0, BIG)],
+        1 => vec![(1, 64), (1, 1_000_000), (1, 1_000_000)],
+        _ => vec![(1, 64), (1, 64), (0, 1_000_000), (1, 1_000_000)],
+    };
+    let mut sheet: Option<Sheet> = None;
+    let all = lines(text);
+    for (at, line) in all.iter().enumerate() {
+        let place = at as u64 + 1;
+        let (kind, v) = readable(*line, forms, ranges, 0).map_err(|n| (n, place))?;
+        match (&mut sheet, kind) {
+            (None, 0) => sheet = Some(Sheet { processors: [v[0], v[2]], limits: [v[1], v[3]], tasks: vec![], files: vec![] }),
+            (Some(s), 1) if s.files.is_empty() && v[0] == s.tasks.len() as i64 + 1 => s.tasks.push([v[1], v[2]]),
+            (Some(s), 2) => {
+                let above = s.files.last().map_or(true, |f| (f.maker as i64 + 1, f.reader as i64 + 1) < (v[0], v[1]));
+                if v[0] < v[1] && v[1] <= s.tasks.len() as i64 && above && s.files.len() < 256 {
+                    s.files.push(File { maker: v[0] as usize - 1, reader: v[1] as usize - 1, size: v[2], time: v[3] });
+                } else {
+                    return Err((4, place));
+                }
+            }
+            _ => return Err((4, place)),
+        }
+    }
+    match sheet {
+        Some(s) if !s.tasks.is_empty() => Ok(s),
+        _ => Err((2, all.len() as u64 + 1)),
+    }
+}
+
+impl Sheet {
+    pub fn colour(&self, processor: i64) -> usize {
+        if processor <= self.processors[0] { 0 } else { 1 }
+    }
+}
+
+pub struct Claim {
+    pub span: i64,
+    pub peaks: [i64; 2],
+}
+
+pub fn read_table(sheet: &Sheet, text: &[u8]) -> Result<(Table, Claim), Refused> {
+    if text.len() > MAX_TEXT {
+        return Err((11, 0));
+    }
+    let forms = ["(run # # #)", "(move # # #)", "(claim # # #)"];
+    let total = sheet.processors[0] + sheet.processors[1];
+    let ranges = |kind: usize| match kind {
+        0 => vec![(1, 64), (1, total), (0, BIG)],
+        1 => vec![(1, 64), (1, 64), (0, BIG)],
+        _ => vec![(0, BIG), (0, BIG), (0, BIG)],
+    };
+    let all = lines(text);
+    let mut at = 0;
+    let mut next = |due: &dyn Fn(usize, &[i64]) -> bool| -> Result<Vec<i64>, Refused> {
+        let place = at as u64 + 1;
+        let line = all.get(at).ok_or((12, place))?;
+        let (kind, v) = readable(*line, forms, ranges, 10).map_err(|n| (n, place))?;
+        if !due(kind, &v) {
+            return Err((14, place));
+        }
+        at += 1;
+        Ok(v)
+    };
+    let mut table = Table { runs: vec![], moves: vec![] };
+    for i in 0..sheet.tasks.len() {
+        let v = next(&|kind, v| kind == 0 && v[0] == i as i64 + 1)?;
+        table.runs.push(Some((v[1], v[2])));
+    }
+    for f in &sheet.files {
+        let t = if moves(sheet, &table, f) {
+            next(&|kind, v| kind == 1 && v[0] == f.maker as i64 + 1 && v[1] == f.reader as i64 + 1)?[2]
+        } else {
+            0
+        };
+        table.moves.push(t);
+    }
+    let v = next(&|kind, _| kind == 2)?;
+    if all.len() > at {
+        let place = at as u64 + 1;
+        return Err((readable(all[at], forms, ranges, 10).err().unwrap_or(14), place));
+    }
+    Ok((table, Claim { span: v[0], peaks: [v[1], v[2]] }))
+}
+
+// ---- schedules
+
+fn run(table: &Table, i: usize) -> (i64, i64) {
+    table.runs[i].unwrap()
+}
+
+fn moves(sheet: &Sheet, table: &Table, f: &File) -> bool {
+    sheet.colour(run(table, f.maker).0) != sheet.colour(run(table, f.reader).0)
+}
+
+pub fn finish(sheet: &Sheet, table: &Table, i: usize) -> i64 {
+    let (p, s) = run(table, i);
+    s + sheet.tasks[i][sheet.colour(p)]
+}
+
+/// The holds of one memory: size, first tick, and the tick at which it ends, if it does.
+fn holds(sheet: &Sheet, table: &Table, colour: usize) -> Vec<(i64, i64, Option<i64>)> {
+    let mut all = vec![];
+    for (k, f) in sheet.files.iter().enumerate() {
+        let Some((p, s)) = table.runs[f.maker] else { continue };
+        let here = sheet.colour(p) == colour;
+        match table.runs[f.reader] {
+            None if here => all.push((f.size, s, None)),
+            None => {}
+            Some(_) => {
+                let end = finish(sheet, table, f.reader);
+                let moved = moves(sheet, table, f);
+                let t = table.moves[k];
+                if here && !moved {
+                    all.push((f.size, s, Some(end)));
+                } else if here {
+                    all.push((f.size, s, Some(t + f.time)));
+                } else if moved {
+                    all.push((f.size, t, Some(end)));
+                }
+            }
+        }
+    }
+    all
+}
+
+/// What a memory holds from each tick of change on, by tick.
+fn profile(sheet: &Sheet, table: &Table, colour: usize) -> Vec<(i64, i64)> {
+    let mut change: BTreeMap<i64, i64> = BTreeMap::new();
+    change.insert(0, 0);
+    for (size, from, end) in holds(sheet, table, colour) {
+        if end.map_or(true, |e| from < e) {
+            *change.entry(from).or_default() += size;
+            if let Some(e) = end {
+                *change.entry(e).or_default() -= size;
+            }
+        }
+    }
+    let mut total = 0;
+    change
+        .into_iter()
+        .map(|(t, d)| {
+            total += d;
+            (t, total)
+        })
+        .collect()
+}
+
+pub fn peaks(sheet: &Sheet, table: &Table) -> [i64; 2] {
+    [0, 1].map(|c| profile(sheet, table, c).iter().map(|p| p.1).max().unwrap())
+}
+
+pub fn span(sheet: &Sheet, table: &Table) -> i64 {
+    (0..sheet.tasks.len()).map(|i| finish(sheet, table, i)).max().unwrap()
+}
+
+/// 15 to 17: the first fault of a complete timetable.
+pub fn fault(sheet: &Sheet, table: &Table) -> Option<Refused> {
+    let n = sheet.tasks.len();
+    let mut busy: Vec<(i64, i64, i64, usize)> = (0..n).map(|i| (run(table, i).0, run(table, i).1, finish(sheet, table, i), i)).collect();
+    busy.sort();
+    let mut shared = vec![];
+    for (at, a) in busy.iter().enumerate() {
+        for b in busy[at + 1..].iter().take_while(|b| b.0 == a.0) {
+            if b.1 < a.2 {
+                shared.push(a.3);
+                shared.push(b.3);
+            }
+        }
+    }
+    if let Some(i) = shared.iter().min() {
+        return Some((15, *i as u64 + 1));
+    }
+    let mut late = vec![];
+    for (k, f) in sheet.files.iter().enumerate() {
+        let made = finish(sheet, table, f.maker);
+        let wanted = run(table, f.reader).1;
+        let t = table.moves[k];
+        let ok = if moves(sheet, table, f) { made <= t && t + f.time <= wanted } else { made <= wanted };
+        if !ok {
+            late.push(f.reader);
+        }
+    }
+    if let Some(j) = late.iter().min() {
+        return Some((16, *j as u64 + 1));
+    }
+    let over: Vec<i64> = [0, 1]
+        .iter()
+        .flat_map(|c| profile(sheet, table, *c).into_iter().filter(|p| p.1 > sheet.limits[*c]).map(|p| p.0).collect::<Vec<_>>())
+        .collect();
+    over.iter().min().map(|t| (17, *t as u64))
+}
+
+/// The marker: number, place, span and peaks.
+pub fn mark(sheet: &[u8], paper: &[u8]) -> [u64; 5] {
+    let refused = |r: Refused| [r.0, r.1, 0, 0, 0];
+    let sheet = match read_sheet(sheet) {
+        Ok(s) => s,
+        Err(r) => return refused(r),
+    };
+    let (table, claim) = match read_table(&sheet, paper) {
+        Ok(t) => t,
+        Err(r) => return refused(r),
+    };
+    if let Some(r) = fault(&sheet, &table) {
+        return refused(r);
+    }
+    let peaks = peaks(&sheet, &table);
+    if claim.span != span(&sheet, &table) || claim.peaks != peaks {
+        return refused((18, 0));
+    }
+    [0, 0, claim.span as u64, peaks[0] as u64, peaks[1] as u64]
+}
+
+/// The line at fault.
+pub fn fault_line(sheet: &[u8], paper: &[u8]) -> Vec<u8> {
+    let m = mark(sheet, paper);
+    let text = match m[0] {
+        1..=4 => sheet,
+        11..=14 => paper,
+        _ => return vec![],
+    };
+    match m[1] {
+        0 => vec![],
+        k => lines(text).get(k as usize - 1).map_or(vec![], |l| l.0.to_vec()),
+    }
+}
+
+// ---- planners
+
+struct State<'a> {
+    sheet: &'a Sheet,
+    table: Table,
+    last: Vec<i64>,
+    trials: u64,
+}
+
+impl State<'_> {
+    fn slots(&self, colour: usize) -> std::ops::Range<usize> {
+        let blue = self.sheet.processors[0] as usize;
+        if colour == 0 { 0..blue } else { blue..self.last.len() }
+    }
+
+    fn inputs(&self, i: usize) -> Vec<(usize, &File)> {
+        self.sheet.files.iter().enumerate().filter(|(_, f)| f.reader == i).collect()
+    }
+
+    fn ready(&self, i: usize) -> bool {
+        self.table.runs[i].is_none() && self.inputs(i).iter().all(|(_, f)| self.table.runs[f.maker].is_some())
+    }
+
+    fn crossing(&self, i: usize, colour: usize) -> Vec<(usize, &File)> {
+        self.inputs(i).into_iter().filter(|(_, f)| self.sheet.colour(run(&self.table, f.maker).0) != colour).collect()
+    }
+
+    /// The first tick from which on the memory always has `need` free.
+    fn free_from(&self, colour: usize, need: i64) -> Option<i64> {
+        let mut first = None;
+        for (t, held) in profile(self.sheet, &self.table, colour).into_iter().rev() {
+            if held + need > self.sheet.limits[colour] {
+                break;
+            }
+            first = Some(t);
+        }
+        first
+    }
+
+    /// The earliest start of a task on a colour.
+    fn start(&mut self, i: usize, colour: usize) -> Option<i64> {
+        self.trials += 1;
+        let crossing = self.crossing(i, colour);
+        let moved: i64 = crossing.iter().map(|(_, f)| f.size).sum();
+        let made: i64 = self.sheet.files.iter().filter(|f| f.maker == i).map(|f| f.size).sum();
+        let longest = crossing.iter().map(|(_, f)| f.time).max().unwrap_or(0);
+        let processor = self.slots(colour).map(|p| self.last[p]).min().unwrap();
+        let arrived = self
+            .inputs(i)
+            .iter()
+            .map(|(k, f)| finish(self.sheet, &self.table, f.maker) + if crossing.iter().any(|(c, _)| c == k) { f.time } else { 0 })
+            .max()
+            .unwrap_or(0);
+        let running = self.free_from(colour, moved + made)?;
+        let moving = self.free_from(colour, moved)? + longest;
+        Some(processor.max(arrived).max(running).max(moving))
+    }
+
+    /// Both colours: finish, colour and start of the better.
+    fn best(&mut self, i: usize) -> Option<(i64, usize, i64)> {
+        [0, 1].iter().filter_map(|c| self.start(i, *c).map(|s| (s + self.sheet.tasks[i][*c], *c, s))).min_by_key(|b| (b.0, b.1))
+    }
+
+    fn place(&mut self, i: usize, colour: usize, start: i64) {
+        let latest = self.slots(colour).filter(|p| self.last[*p] <= start).map(|p| self.last[p]).max().unwrap();
+        let slot = self.slots(colour).find(|p| self.last[*p] == latest).unwrap();
+        let starts: Vec<(usize, i64)> = self.crossing(i, colour).iter().map(|(k, f)| (*k, start - f.time)).collect();
+        for (k, t) in starts {
+            self.table.moves[k] = t;
+        }
+        self.table.runs[i] = Some((slot as i64 + 1, start));
+        self.last[slot] = start + self.sheet.tasks[i][colour];
+    }
+}
+
+fn weight(sheet: &Sheet, i: usize, known: &mut Vec<Option<i64>>) -> i64 {
+    if let Some(w) = known[i] {
+        return w;
+    }
+    let behind = sheet.files.iter().filter(|f| f.maker == i).map(|f| f.time + weight(sheet, f.reader, known)).max().unwrap_or(0);
+    let w = sheet.tasks[i][0] + sheet.tasks[i][1] + behind;
+    known[i] = Some(w);
+    w
+}
+
+pub struct Planned {
+    pub number: u64,
+    pub place: u64,
+    pub trials: u64,
+    pub text: Vec<u8>,
+}
+
+/// A planner on a sheet: MemHEFT, or MemMinMin. 31 is left to the caller.
+pub fn plan(heft: bool, text: &[u8]) -> Planned {
+    let refused = |r: Refused, trials| Planned { number: r.0, place: r.1, trials, text: vec![] };
+    let sheet = match read_sheet(text) {
+        Ok(s) => s,
+        Err(r) => return refused(r, 0),
+    };
+    let n = sheet.tasks.len();
+    let mut known = vec![None; n];
+    let mut list: Vec<usize> = (0..n).collect();
+    list.sort_by_key(|i| std::cmp::Reverse(weight(&sheet, *i, &mut known)));
+    let mut s = State {
+        sheet: &sheet,
+        table: Table { runs: vec![None; n], moves: vec![0; sheet.files.len()] },
+        last: vec![0; (sheet.processors[0] + sheet.processors[1]) as usize],
+        trials: 0,
+    };
+    for placed in 0..n {
+        let mut choice: Option<(i64, usize, usize, i64)> = None;
+        if heft {
+            for i in &list {
+                if s.ready(*i) {
+                    if let Some((f, c, t)) = s.best(*i) {
+                        choice = Some((f, *i, c, t));
+                        break;
+                    }
+                }
+            }
+        } else {
+            for i in 0..n {
+                if s.ready(i) {
+                    if let Some((f, c, t)) = s.best(i) {
+                        choice = choice.filter(|b| b.0 <= f).or(Some((f, i, c, t)));
+                    }
+                }
+            }
+        }
+        match choice {
+            Some((_, i, c, t)) => s.place(i, c, t),
+            None => return refused((21, placed as u64), s.trials),
+        }
+    }
+    let text = write_table(&sheet, &s.table).into_bytes();
+    Planned { number: 0, place: text.len() as u64, trials: s.trials, text }
+}
+
+/// The due lines of a complete timetable, with its true claim.
+pub fn write_table(sheet: &Sheet, table: &Table) -> String {
+    let mut text = String::new();
+    for i in 0..sheet.tasks.len() {
+        let (p, s) = run(table, i);
+        text += &format!("(run {} {} {})\n", i + 1, p, s);
+    }
+    for (k, f) in sheet.files.iter().enumerate() {
+        if moves(sheet, table, f) {
+            text += &format!("(move {} {} {})\n", f.maker + 1, f.reader + 1, table.moves[k]);
+        }
+    }
+    let [b, r] = peaks(sheet, table);
+    text + &format!("(claim {} {} {})\n", span(sheet, table), b, r)
+}
