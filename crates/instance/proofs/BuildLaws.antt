@@ -1,6 +1,6 @@
 -- Which line is due, by the shape and the job array, and what is taken from it.
 use Prim.Native.Nat.{ℕ, suc, pred, _+_, _-_, _≤_, _<_}
-use mathlib.Core.Path.{_≡_, refl, sym, ap, _∙_}
+use mathlib.Core.Path.{_≡_, refl, ap}
 use mathlib.Core.Bool.{Bool, true, false, _&&_, _||_}
 use mathlib.Core.List.{List, [], _∷_}
 use mathlib.Core.Logic.{⊎-elim}
@@ -16,7 +16,7 @@ use Rattle.rules.specs.Model.{Task, File, Instance, fileCount, taskCount}
 use Rattle.rules.specs.Count.{listBelow}
 use Rattle.rules.specs.Text.{Reading, wrong, right, undue, orUndue, due, faultOf}
 use Rattle.rules.specs.BoardType.{sideFrom}
-use Rattle.rules.specs.InstanceText.{InstanceLine, taskLine, fileLine, ascends, fileAllowed, withBoard, withLine}
+use Rattle.rules.specs.InstanceText.{taskLine, fileLine, ascends, fileAllowed, withBoard, withLine}
 use Rattle.rules.specs.declared.Board.{Board}
 use Rattle.rules.proofs.Tests.{and-no}
 use Rattle.rules.proofs.ReadingLaws.{and-true-4}

@@ -6,7 +6,6 @@ use mathlib.Core.List.{List, [], _∷_}
 use mathlib.Core.Option.{Option, none, some}
 use native.Mathlib.Omega.{arith}
 use lib.ListN.{getD}
-use lib.Dec.{leb}
 use Rattle.rules.specs.Text.{ended, scan, Reading, wrong, right, outOfRange, malformed, ifInRange, orElse}
 use Rattle.rules.specs.BoardType.{sideFrom, checkedBoard}
 use Rattle.rules.specs.InstanceText.{InstanceLine, boardLine, boardForm, taskForm, fileForm, asBoard, asTask, asFile, instanceLine}
@@ -15,7 +14,6 @@ use Rattle.rules.specs.declared.Side.{Side}
 use Rattle.rules.specs.declared.Checked.{Checked}
 use Rattle.rules.specs.declared.Checked.the-variants.{Within, OutOfRange}
 use Rattle.text.specs.ReadNumbers.{numbersOf}
-use Rattle.text.specs.declared.forms.Numbers.{Numbers}
 use Rattle.text.specs.declared.forms.Numbers.the-variants.{Are, Not}
 
 -- ---- the board, from the constructor's answer

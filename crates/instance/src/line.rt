@@ -1,6 +1,7 @@
 // A line of a board sheet, read.
 ghost use mathlib.Core.Path.{_≡_};
 ghost use mathlib.Core.List.{[], _∷_};
+ghost use Rattle.rules.specs.Limits.{taskNumbers, runTimes, inRange};
 ghost use Rattle.rules.specs.Text.{ended};
 ghost use Rattle.rules.specs.InstanceText.{asBoard, asTask, asFile, instanceLine};
 ghost use Rattle.instance.specs.Lines.{asReading};
@@ -30,6 +31,20 @@ pub enum Line {
     OutOfRange,
 }
 
+// Whether n can be a task's number.
+fn is_task(n: u64) -> bool
+    ensures { λ r. ⌜ r ≡ inRange taskNumbers n ⌝ }
+{
+    between(n, Board::MIN_TASK, Board::MAX_TASK)
+}
+
+// Whether n can be a run time.
+fn is_run_time(n: u64) -> bool
+    ensures { λ r. ⌜ r ≡ inRange runTimes n ⌝ }
+{
+    between(n, Board::MIN_RUN_TIME, Board::MAX_RUN_TIME)
+}
+
 // The board line of its numbers.
 fn board_of(blue: u64, bound: u64, red: u64, limit: u64) -> Line
     ensures { λ r. ⌜ asReading r ≡ asBoard (blue ∷ bound ∷ red ∷ limit ∷ []) ⌝ }
@@ -52,13 +67,13 @@ fn board_of(blue: u64, bound: u64, red: u64, limit: u64) -> Line
 fn task_of(i: u64, blue: u64, red: u64) -> Line
     ensures { λ r. ⌜ asReading r ≡ asTask (i ∷ blue ∷ red ∷ []) ⌝ }
 {
-    if !between(i, Board::MIN_TASK, Board::MAX_TASK) {
+    if !is_task(i) {
         return Line::OutOfRange;
     }
-    if !between(blue, Board::MIN_RUN_TIME, Board::MAX_RUN_TIME) {
+    if !is_run_time(blue) {
         return Line::OutOfRange;
     }
-    if !between(red, Board::MIN_RUN_TIME, Board::MAX_RUN_TIME) {
+    if !is_run_time(red) {
         return Line::OutOfRange;
     }
     Line::Task { i, blue, red }
@@ -68,10 +83,10 @@ fn task_of(i: u64, blue: u64, red: u64) -> Line
 fn file_of(i: u64, j: u64, size: u64, time: u64) -> Line
     ensures { λ r. ⌜ asReading r ≡ asFile (i ∷ j ∷ size ∷ time ∷ []) ⌝ }
 {
-    if !between(i, Board::MIN_TASK, Board::MAX_TASK) {
+    if !is_task(i) {
         return Line::OutOfRange;
     }
-    if !between(j, Board::MIN_TASK, Board::MAX_TASK) {
+    if !is_task(j) {
         return Line::OutOfRange;
     }
     if !between(size, Board::MIN_SIZE, Board::MAX_SIZE) {

@@ -54,7 +54,8 @@ fn rest_of(begun: Shape, sheet: &[u8], job: &mut [u64; layout::JOB]) -> Instance
     InstanceRead::Accepted(shape)
 }
 
-// Reads a board sheet. Where it is accepted, the job array holds its tasks and files.
+// Reads a board sheet. Where it is accepted, the job array holds its tasks and files, and 0 past them; what the array
+// held before plays no part.
 pub fn read(sheet: &[u8], job: &mut [u64; layout::JOB]) -> InstanceRead
     ensures { λ r. ⌜ asRead r (now (job .exit)) ≡ readInstance (now (sheet .entry)) ⌝ }
 {

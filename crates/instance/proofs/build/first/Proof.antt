@@ -1,10 +1,7 @@
 -- `instance::build::first` meets its contract.
-use mathlib.Core.Path.{sym, ap, _∙_}
+use mathlib.Core.Path.{ap, _∙_}
 use Rattle.rules.specs.Text.{wrong, right}
 use Rattle.model.specs.Layout.{jobOf}
-use Rattle.instance.specs.Lines.{asReading}
-use Rattle.rules.specs.Text.{due}
-use Rattle.rules.specs.InstanceText.{withBoard}
 use Rattle.instance.proofs.BuildLaws.{begun, no-board}
 use native.Mathlib.Omega.{arith}
 use borrow.Author.Needs.{needs}
