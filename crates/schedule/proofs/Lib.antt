@@ -7,6 +7,11 @@ pub mod CutLaws
 pub mod DueLaws
 -- what the plan holds
 pub mod StoreLaws
+pub mod CrossingLaws
 -- the loops
 pub mod ReadLoops
 pub mod ReadLaws
+-- the pieces of the text, its length and its bytes
+pub mod PieceLaws
+pub mod SizeLaws
+pub mod LaidLaws

@@ -1,7 +1,7 @@
 -- Where the reader stands, step by step: what is left to be read is the whole answer.
 use Prim.Native.Nat.{ℕ, suc, _+_, _-_, _*_, _≤_, _<_}
 use mathlib.Core.Path.{_≡_, refl, sym, ap, ap₂, _∙_}
-use mathlib.Core.Bool.{Bool, true, false, not}
+use mathlib.Core.Bool.{true, false}
 use mathlib.Core.List.{List, [], _∷_}
 use native.Mathlib.Nat.{sub-zero}
 use native.Mathlib.Omega.{arith}
@@ -9,20 +9,19 @@ use native.Mathlib.Numerals.{add-one}
 use borrow.Author.Tests.{eq-eqb, ne-eqb}
 use types.Run.{OneOf}
 use denote.Enum.Declared.{tagOf}
-use lib.Dec.{eqb, leb}
+use lib.Dec.{eqb}
 use lib.ListN.{length, drop, set, length-drop, drop-of-length-le}
 use Rattle.rules.specs.Count.{listBelow}
 use Rattle.rules.specs.Limits.{maxTasks, maxFiles}
-use Rattle.rules.specs.Model.{sameColour, Instance, Schedule, taskCount, fileCount, fileAt, runAt, moved}
+use Rattle.rules.specs.Model.{Instance, Schedule, taskCount, fileCount, fileAt, moved}
 use Rattle.rules.specs.Text.{Fault, undue, Line, linesOf, wrong, right, due, faultOf}
 use Rattle.rules.specs.Validity.{Claim}
 use Rattle.rules.specs.ScheduleText.{runOf, ScheduleRead, refused, read, readEnd, readClaim, readMoves, readRuns}
-use Rattle.rules.proofs.CountLaws.{getD-listBelow}
 use Rattle.rules.proofs.LineLaws.{no-lines}
 use Rattle.text.proofs.FirstLineLaws.{no-line}
 use Rattle.model.specs.declared.layout.Shape.{Shape}
-use Rattle.model.specs.Layout.{Job, Plan, planOf, runFrom, instanceFrom, scheduleFrom, colourBy, JobBounds}
-use Rattle.model.proofs.LayoutLaws.{task-count, file-count, file-at, maker-at, reader-at, processors-of}
+use Rattle.model.specs.Layout.{Job, Plan, planOf, instanceFrom, scheduleFrom, JobBounds}
+use Rattle.model.proofs.LayoutLaws.{task-count, file-count, maker-at, reader-at}
 use Rattle.schedule.proofs.lines.Line.{the-type}
 use Rattle.model.specs.declared.claim.Claim.{Claim as Numbers}
 use Rattle.schedule.specs.declared.lines.Line.{Line as Said}
@@ -146,17 +145,6 @@ moves-done I P k ls = refl
 all-moves : (b : Shape) (L : Plan) → movesOf (b .tasks) (b .files) L ≡ scheduleFrom b L
 unfolding scheduleFrom
 all-moves b L = refl
-
--- whether file i moves, as the code finds it
-module _ {b : Shape} {J : Job} (f : JobBounds b J) (L : Plan) where
-  run-of : (n i : ℕ) → i < b .tasks → runAt (movesOf (b .tasks) n L) i ≡ runFrom L i
-  run-of n i h = getD-listBelow (b .tasks) (runFrom L) i _ h
-
-  pub moves-if : {i : ℕ} → i < b .files → (n m d : ℕ) (r : Bool) → m ≡ J .maker i → d ≡ J .reader i
-      → r ≡ not (sameColour (colourBy (leb (L .processor m) (b .board .blue .processors))) (colourBy (leb (L .processor d) (b .board .blue .processors))))
-      → moved (instanceFrom b J) (movesOf (b .tasks) n L) i ≡ r
-  moves-if {i} h n m d r p q e =
-      rw (e, p, q, file-at b J i h, run-of n (J .maker i) (f .maker i h), run-of n (J .reader i) (f .reader i h), processors-of b J true)
 
 module _ {b : Shape} {J : Job} {bs old plan : List ℕ} {from line at k i : ℕ} (q : MovesRead b J bs old plan from line at k i) where
   abbrev whole : ScheduleRead

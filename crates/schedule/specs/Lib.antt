@@ -1,3 +1,4 @@
 -- What the contracts of this crate cite besides the definitions of `rules`.
 pub mod Lines
 pub mod Reading
+pub mod Sizes

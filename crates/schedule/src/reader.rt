@@ -1,23 +1,21 @@
 // Reads a timetable: its due lines, one after the other.
 ghost use mathlib.Core.Path.{_≡_};
-ghost use mathlib.Core.Bool.{not};
 ghost use Prim.Native.Nat.{_+_, _<_, _≤_};
-ghost use lib.Dec.{leb};
 ghost use lib.ListN.{length, drop, set};
 ghost use Rattle.rules.specs.Limits.{maxTasks, maxFiles};
-ghost use Rattle.rules.specs.Model.{Schedule, sameColour, taskCount, fileCount};
+ghost use Rattle.rules.specs.Model.{Schedule, taskCount, fileCount};
 ghost use Rattle.rules.specs.Text.{linesOf};
 ghost use Rattle.rules.specs.ScheduleText.{readClaim, readMoves, readRuns, readSchedule};
-ghost use Rattle.model.specs.Layout.{Job, jobOf, planOf, instanceFrom, scheduleFrom, colourBy, JobBounds};
+ghost use Rattle.model.specs.Layout.{Job, jobOf, planOf, instanceFrom, scheduleFrom, JobBounds};
 ghost use Rattle.schedule.specs.Lines.{Processors, asReading};
 ghost use Rattle.schedule.specs.Reading.{LineAt, asRead, goesOn, InText, nothing, runsOf};
+use crate::crossing::crosses;
+use model::claim::Claim;
 use crate::lines::Line;
 use crate::lines::fault_of;
 use crate::lines::parse;
-use model::claim::Claim;
 use model::layout;
 use model::layout::Shape;
-use model::residency::same;
 use rules::Board;
 use text::Fault;
 
@@ -98,17 +96,6 @@ fn read_runs(shape: Shape, paper: &[u8], plan: &mut [u64; layout::PLAN]) -> Prog
         i += 1;
     }
     Progress::At(at, (i + 1) as u64)
-}
-
-// Whether tasks i and j run in memories of different colour.
-fn crosses(shape: Shape, plan: &[u64; layout::PLAN], i: usize, j: usize) -> bool
-    requires { ⌜ (i < maxTasks) × (j < maxTasks) ⌝ }
-    ensures { λ r. ⌜ r ≡ not (sameColour (colourBy (leb (planOf (now (plan .entry)) .processor i) (shape .board .blue .processors))) (colourBy (leb (planOf (now (plan .entry)) .processor j) (shape .board .blue .processors)))) ⌝ }
-{
-    !same(
-        layout::on_blue(shape, plan, i),
-        layout::on_blue(shape, plan, j),
-    )
 }
 
 // Reads the moves into the plan, from `from` on: a line, the first of which has the number `line`, for each file

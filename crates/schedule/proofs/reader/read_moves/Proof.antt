@@ -4,7 +4,8 @@ use mathlib.Core.Path.{_∙_}
 use native.Mathlib.Omega.{arith}
 use borrow.Author.Needs.{needs}
 use Rattle.model.specs.Layout.{jobOf, planOf}
-use Rattle.schedule.proofs.ReadLoops.{MovesRead, moves-start, moves-if, moves-other, moves-undue-maker, moves-undue-reader, moves-next, moves-skip, moves-end}
+use Rattle.schedule.proofs.CrossingLaws.{moved-so-far}
+use Rattle.schedule.proofs.ReadLoops.{MovesRead, moves-start, moves-other, moves-undue-maker, moves-undue-reader, moves-next, moves-skip, moves-end}
 use Rattle.schedule.proofs.reader.read_moves.Statement.{statement}
 use Rattle.schedule.proofs.reader.read_moves.Tie as tie
 
@@ -50,7 +51,7 @@ returns c =
     let l = m .before .before .before in
     let s = l .before .before in
     let o = c .before .before in
-    (moves-other (l .loop .inv) (m .before .if1 .taken) (moves-if (s .pre .0) (planOf (l .loop .plan)) (m .before .if1 .taken) (l .loop .i) _ _ _ (m .maker .ensures) (x .before .before .reader .ensures) (x .crosses .ensures) ∙ o .before .if2 .taken) (o .line-at .result .said) (o .line-at .ensures .0 _) (c .before .match .keys2) _ (c .fault-of .ensures), tt)
+    (moves-other (l .loop .inv) (m .before .if1 .taken) (moved-so-far (s .pre .0) (planOf (l .loop .plan)) (m .before .if1 .taken) (m .maker .ensures) (x .before .before .reader .ensures) (x .crosses .ensures) (l .loop .i) ∙ o .before .if2 .taken) (o .line-at .result .said) (o .line-at .ensures .0 _) (c .before .match .keys2) _ (c .fault-of .ensures), tt)
 
 add-if3 : tie.Need-add-if3 Inv-loop μ-loop
 add-if3 c =
@@ -68,7 +69,7 @@ returns-2 c =
     let s = l .before .before in
     let y = c .before .before in
     let o = y .before .before in
-    (moves-undue-maker (l .loop .inv) (m .before .if1 .taken) (moves-if (s .pre .0) (planOf (l .loop .plan)) (m .before .if1 .taken) (l .loop .i) _ _ _ (m .maker .ensures) (x .before .before .reader .ensures) (x .crosses .ensures) ∙ o .before .if2 .taken) (o .line-at .result .said) (o .line-at .ensures .0 _) _ _ _ _ _ (y .said .given .1) (m .maker .ensures) (x .before .before .reader .ensures) (c .if3 .taken), tt)
+    (moves-undue-maker (l .loop .inv) (m .before .if1 .taken) (moved-so-far (s .pre .0) (planOf (l .loop .plan)) (m .before .if1 .taken) (m .maker .ensures) (x .before .before .reader .ensures) (x .crosses .ensures) (l .loop .i) ∙ o .before .if2 .taken) (o .line-at .result .said) (o .line-at .ensures .0 _) _ _ _ _ _ (y .said .given .1) (m .maker .ensures) (x .before .before .reader .ensures) (c .if3 .taken), tt)
 
 add-if4 : tie.Need-add-if4 Inv-loop μ-loop
 add-if4 c =
@@ -86,7 +87,7 @@ returns-3 c =
     let s = l .before .before in
     let y = c .before .before .before in
     let o = y .before .before in
-    (moves-undue-reader (l .loop .inv) (m .before .if1 .taken) (moves-if (s .pre .0) (planOf (l .loop .plan)) (m .before .if1 .taken) (l .loop .i) _ _ _ (m .maker .ensures) (x .before .before .reader .ensures) (x .crosses .ensures) ∙ o .before .if2 .taken) (o .line-at .result .said) (o .line-at .ensures .0 _) _ _ _ _ _ (y .said .given .1) (m .maker .ensures) (x .before .before .reader .ensures) (c .before .if3 .left) (c .if4 .taken), tt)
+    (moves-undue-reader (l .loop .inv) (m .before .if1 .taken) (moved-so-far (s .pre .0) (planOf (l .loop .plan)) (m .before .if1 .taken) (m .maker .ensures) (x .before .before .reader .ensures) (x .crosses .ensures) (l .loop .i) ∙ o .before .if2 .taken) (o .line-at .result .said) (o .line-at .ensures .0 _) _ _ _ _ _ (y .said .given .1) (m .maker .ensures) (x .before .before .reader .ensures) (c .before .if3 .left) (c .if4 .taken), tt)
 
 add-store : tie.Need-add-store Inv-loop μ-loop
 add-store c = omega (arith, c .before .before .before .before .before .before .before .before .before .before .before .before .before .before .before .before .pre .0 .files)
@@ -114,7 +115,7 @@ loop-again c =
     let a = c .before in
     let y = a .before .before .before .before in
     let o = y .before .before in
-    moves-next (l .loop .inv) (m .before .if1 .taken) (moves-if (s .pre .0) (planOf (l .loop .plan)) (m .before .if1 .taken) (l .loop .i) _ _ _ (m .maker .ensures) (x .before .before .reader .ensures) (x .crosses .ensures) ∙ o .before .if2 .taken) (o .line-at .result .said) (o .line-at .ensures .0 _) _ _ _ _ _ (y .said .given .1) (m .maker .ensures) (x .before .before .reader .ensures) (s .pre .0) (a .store-arg .given .0 .1) _ (c .store .ensures) (a .before .before .if3 .left) (a .before .if4 .left) (o .line-at .ensures .1)
+    moves-next (l .loop .inv) (m .before .if1 .taken) (moved-so-far (s .pre .0) (planOf (l .loop .plan)) (m .before .if1 .taken) (m .maker .ensures) (x .before .before .reader .ensures) (x .crosses .ensures) (l .loop .i) ∙ o .before .if2 .taken) (o .line-at .result .said) (o .line-at .ensures .0 _) _ _ _ _ _ (y .said .given .1) (m .maker .ensures) (x .before .before .reader .ensures) (s .pre .0) (a .store-arg .given .0 .1) _ (c .store .ensures) (a .before .before .if3 .left) (a .before .if4 .left) (o .line-at .ensures .1)
 
 add-store-2 : tie.Need-add-store-2 Inv-loop μ-loop
 add-store-2 c = omega (arith, c .before .before .before .before .before .before .before .before .before .before .pre .0 .files)
@@ -135,7 +136,7 @@ loop-again-2 c =
     let l = m .before .before .before in
     let s = l .before .before in
     let a = c .before in
-    moves-skip (l .loop .inv) (m .before .if1 .taken) (moves-if (s .pre .0) (planOf (l .loop .plan)) (m .before .if1 .taken) (l .loop .i) _ _ _ (m .maker .ensures) (x .before .before .reader .ensures) (x .crosses .ensures) ∙ a .before .if2 .left) (s .pre .0) (a .store-arg2 .given .0 .1) _ (c .store2 .ensures)
+    moves-skip (l .loop .inv) (m .before .if1 .taken) (moved-so-far (s .pre .0) (planOf (l .loop .plan)) (m .before .if1 .taken) (m .maker .ensures) (x .before .before .reader .ensures) (x .crosses .ensures) (l .loop .i) ∙ a .before .if2 .left) (s .pre .0) (a .store-arg2 .given .0 .1) _ (c .store2 .ensures)
 
 returns-4 : tie.Need-returns-4 Inv-loop μ-loop
 returns-4 c =

@@ -1,11 +1,11 @@
--- `schedule::reader::crosses` meets its contract.
+-- `schedule::crossing::crosses` meets its contract.
 use mathlib.Core.Path.{ap, ap₂, _∙_}
 use mathlib.Core.Bool.{not}
 use borrow.Author.Needs.{needs}
 use Rattle.rules.specs.Model.{sameColour}
 use Rattle.model.specs.Layout.{colourBy}
-use Rattle.schedule.proofs.reader.crosses.Statement.{statement}
-use Rattle.schedule.proofs.reader.crosses.Tie as tie
+use Rattle.schedule.proofs.crossing.crosses.Statement.{statement}
+use Rattle.schedule.proofs.crossing.crosses.Tie as tie
 
 on-blue-requires : tie.Need-on-blue-requires
 on-blue-requires c κs = search needs

@@ -1,0 +1,28 @@
+-- `schedule::size::move_size` meets its contract.
+use native.Mathlib.Omega.{arith}
+use borrow.Author.Needs.{needs}
+use Rattle.rules.specs.ScheduleText.{moveForm}
+use Rattle.schedule.proofs.SizeLaws.{line-short}
+use Rattle.schedule.proofs.size.move_size.Statement.{statement}
+use Rattle.schedule.proofs.size.move_size.Tie as tie
+
+slice-aggregate-line-size : tie.Need-slice-aggregate-line-size
+slice-aggregate-line-size c = search needs
+
+slice-aggregate-line-size-2 : tie.Need-slice-aggregate-line-size-2
+slice-aggregate-line-size-2 c = search needs
+
+line-size-requires : tie.Need-line-size-requires
+line-size-requires c κs =
+    let s = c .before .before in
+    omega (arith, line-short moveForm (s .fits .i .fits) (s .fits .j .fits) (s .fits .start .fits))
+
+returns : tie.Need-returns
+returns c =
+    let s = c .before .before .before in
+    (c .line-size .ensures, omega (arith, c .line-size .ensures, line-short moveForm (s .fits .i .fits) (s .fits .j .fits) (s .fits .start .fits)))
+
+pub move-size-spec : {M : Type 1} → statement M
+move-size-spec =
+    tie.close
+    (tie.spec slice-aggregate-line-size slice-aggregate-line-size-2 line-size-requires returns)

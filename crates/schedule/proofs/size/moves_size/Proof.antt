@@ -1,0 +1,122 @@
+-- `schedule::size::moves_size` meets its contract: the lines of the files passed are counted.
+use Prim.Native.Nat.{_-_}
+use mathlib.Core.Path.{_∙_}
+use native.Mathlib.Omega.{arith}
+use borrow.Author.Needs.{needs}
+use denote.Ref.{now}
+use Rattle.rules.specs.ScheduleText.{moveLines}
+use Rattle.rules.proofs.ScheduleTextLaws.{moves-none}
+use Rattle.model.specs.Layout.{jobOf, planOf, instanceFrom, scheduleFrom}
+use Rattle.schedule.proofs.CrossingLaws.{moved-in}
+use Rattle.schedule.proofs.PieceLaws.{moves-grow, move-piece, no-piece}
+use Rattle.schedule.proofs.SizeLaws.{Counted, counted-none, counted-next, counted-skip, counted-all}
+use Rattle.schedule.proofs.size.moves_size.Statement.{statement}
+use Rattle.schedule.proofs.size.moves_size.Tie as tie
+
+abbrev Inv-loop : tie.InvT-loop
+Inv-loop shape job plan n₀ i₀ n i = Counted (moveLines (instanceFrom shape (jobOf job)) (scheduleFrom shape (planOf plan))) (shape .files) n i
+
+abbrev μ-loop : tie.MeasureT-loop
+μ-loop shape job plan n₀ i₀ n i = shape .files - i
+
+loop-holds : tie.Need-loop-holds Inv-loop μ-loop
+loop-holds c = counted-none _ _ (moves-none _ _)
+
+maker-requires : tie.Need-maker-requires Inv-loop μ-loop
+maker-requires c κs = search needs
+
+reader-requires : tie.Need-reader-requires Inv-loop μ-loop
+reader-requires c κs = search needs
+
+crosses-requires : tie.Need-crosses-requires Inv-loop μ-loop
+crosses-requires c κs =
+    let m = c .before in
+    let l = m .before .before .before in
+    let f = l .before .pre in
+    let h = m .before .if1 .taken in
+    omega (arith, f .tasks, f .maker (l .loop .i) h, f .reader (l .loop .i) h, m .maker .ensures, c .reader .ensures)
+
+add-move-size : tie.Need-add-move-size Inv-loop μ-loop
+add-move-size c =
+    let m = c .before .before .before in
+    let l = m .before .before .before in
+    omega (arith, l .before .pre .tasks, l .before .pre .maker (l .loop .i) (m .before .if1 .taken), m .maker .ensures)
+
+add-move-size-2 : tie.Need-add-move-size-2 Inv-loop μ-loop
+add-move-size-2 c =
+    let m = c .before .before .before in
+    let l = m .before .before .before in
+    omega (arith, l .before .pre .tasks, l .before .pre .reader (l .loop .i) (m .before .if1 .taken), c .before .before .reader .ensures)
+
+move-start-requires : tie.Need-move-start-requires Inv-loop μ-loop
+move-start-requires c κs = search needs
+
+move-size-requires : tie.Need-move-size-requires Inv-loop μ-loop
+move-size-requires c κs = search needs
+
+add-n : tie.Need-add-n Inv-loop μ-loop
+add-n c = omega (arith, c .before .before .before .before .before .before .before .before .loop .inv .bound, c .before .before .before .before .before .before .before .before .loop .inv .passed, c .before .before .before .before .before .before .before .before .before .pre .files)
+
+add-i : tie.Need-add-i Inv-loop μ-loop
+add-i c = search needs
+
+loop-less : tie.Need-loop-less Inv-loop μ-loop
+loop-less c = search needs
+
+loop-again : tie.Need-loop-again Inv-loop μ-loop
+loop-again c =
+    let x = c .before .before .before in
+    let m = x .before .before in
+    let l = m .before .before .before in
+    let s = l .before in
+    let h = m .before .if1 .taken in
+    let J = jobOf (now (s .args .job)) in
+    let L = planOf (now (s .args .plan)) in
+    let e = moved-in (s .pre) L h (m .maker .ensures) (x .before .reader .ensures) (x .crosses .ensures) in
+    counted-next _ _ (moves-grow _ _) (l .loop .inv) h _ (move-piece (s .args .shape) J L h _ _ _ (m .maker .ensures) (x .before .reader .ensures) (c .before .move-start .ensures) (e ∙ c .before .before .if2 .taken)) _ (c .move-size .ensures .0) (c .move-size .ensures .1)
+
+add-i-2 : tie.Need-add-i-2 Inv-loop μ-loop
+add-i-2 c = search needs
+
+loop-less-2 : tie.Need-loop-less-2 Inv-loop μ-loop
+loop-less-2 c = search needs
+
+loop-again-2 : tie.Need-loop-again-2 Inv-loop μ-loop
+loop-again-2 c =
+    let x = c .before in
+    let m = x .before .before in
+    let l = m .before .before .before in
+    let s = l .before in
+    let h = m .before .if1 .taken in
+    let J = jobOf (now (s .args .job)) in
+    let L = planOf (now (s .args .plan)) in
+    let e = moved-in (s .pre) L h (m .maker .ensures) (x .before .reader .ensures) (x .crosses .ensures) in
+    counted-skip _ _ (moves-grow _ _) (l .loop .inv) h (no-piece (s .args .shape) J L h (e ∙ c .if2 .left))
+
+returns : tie.Need-returns Inv-loop μ-loop
+returns c =
+    let l = c .before .before in
+    (counted-all _ _ (moves-grow _ _) (l .loop .inv) (c .if1 .left), omega (arith, l .loop .inv .bound, l .loop .inv .passed, l .before .pre .files))
+
+pub moves-size-spec : {M : Type 1} → statement M
+moves-size-spec =
+    tie.close
+    (tie.spec
+    Inv-loop
+    μ-loop
+    loop-holds
+    maker-requires
+    reader-requires
+    crosses-requires
+    add-move-size
+    add-move-size-2
+    move-start-requires
+    move-size-requires
+    add-n
+    add-i
+    loop-less
+    loop-again
+    add-i-2
+    loop-less-2
+    loop-again-2
+    returns)

@@ -1,0 +1,152 @@
+-- `schedule::writer::write_moves` meets its contract: each line is written into the part from `at` on.
+use Prim.Native.Nat.{_-_}
+use mathlib.Core.Path.{_∙_}
+use native.Mathlib.Omega.{arith}
+use borrow.Author.Needs.{needs}
+use denote.Ref.{now}
+use Rattle.rules.specs.ScheduleText.{moveLines}
+use Rattle.rules.proofs.ScheduleTextLaws.{moves-none}
+use Rattle.model.specs.Layout.{jobOf, planOf, instanceFrom, scheduleFrom}
+use Rattle.schedule.proofs.CrossingLaws.{moved-in}
+use Rattle.schedule.proofs.PieceLaws.{moves-grow, move-piece, no-piece}
+use Rattle.schedule.proofs.LaidLaws.{Laid, laid-none, laid-within, laid-length, laid-room, laid-next, laid-skip, laid-all}
+use Rattle.schedule.proofs.writer.write_moves.Statement.{statement}
+use Rattle.schedule.proofs.writer.write_moves.Tie as tie
+
+abbrev Inv-loop : tie.InvT-loop
+Inv-loop shape job plan out₀ at₀ i₀ out at i = Laid (moveLines (instanceFrom shape (jobOf job)) (scheduleFrom shape (planOf plan))) (shape .files) out₀ out at i
+
+abbrev μ-loop : tie.MeasureT-loop
+μ-loop shape job plan out₀ at₀ i₀ out at i = shape .files - i
+
+loop-holds : tie.Need-loop-holds Inv-loop μ-loop
+loop-holds c = laid-none _ _ _ (moves-none _ _) (c .before .pre .1)
+
+maker-requires : tie.Need-maker-requires Inv-loop μ-loop
+maker-requires c κs = search needs
+
+reader-requires : tie.Need-reader-requires Inv-loop μ-loop
+reader-requires c κs = search needs
+
+crosses-requires : tie.Need-crosses-requires Inv-loop μ-loop
+crosses-requires c κs =
+    let m = c .before in
+    let l = m .before .before .before in
+    let f = l .before .before .pre .0 in
+    let h = m .before .if1 .taken in
+    omega (arith, f .tasks, f .maker (l .loop .i) h, f .reader (l .loop .i) h, m .maker .ensures, c .reader .ensures)
+
+move-start-requires : tie.Need-move-start-requires Inv-loop μ-loop
+move-start-requires c κs = search needs
+
+sub-write-move : tie.Need-sub-write-move Inv-loop μ-loop
+sub-write-move c = laid-within _ _ (moves-grow _ _) (c .before .before .before .before .before .before .before .loop .inv)
+
+part-write-move-start : tie.Need-part-write-move-start Inv-loop μ-loop
+part-write-move-start c = laid-within _ _ (moves-grow _ _) (c .before .before .before .before .before .before .before .loop .inv)
+
+part-write-move-end : tie.Need-part-write-move-end Inv-loop μ-loop
+part-write-move-end c = search needs
+
+add-write-move : tie.Need-add-write-move Inv-loop μ-loop
+add-write-move c =
+    let m = c .before .before .before .before .before in
+    let l = m .before .before .before in
+    let f = l .before .before .pre .0 in
+    omega (arith, f .tasks, f .maker (l .loop .i) (m .before .if1 .taken), m .maker .ensures)
+
+add-write-move-2 : tie.Need-add-write-move-2 Inv-loop μ-loop
+add-write-move-2 c =
+    let m = c .before .before .before .before .before in
+    let l = m .before .before .before in
+    let f = l .before .before .pre .0 in
+    omega (arith, f .tasks, f .reader (l .loop .i) (m .before .if1 .taken), c .before .before .before .before .reader .ensures)
+
+write-move-requires : tie.Need-write-move-requires Inv-loop μ-loop
+write-move-requires c κs =
+    let x = c .before .before .before in
+    let m = x .before .before in
+    let l = m .before .before .before in
+    let s = l .before .before in
+    let h = m .before .if1 .taken in
+    let J = jobOf (now (s .args .job)) in
+    let L = planOf (now (s .args .plan)) in
+    let e = moved-in (s .pre .0) L h (m .maker .ensures) (x .before .reader .ensures) (x .crosses .ensures) in
+    let t = c .before in
+    laid-room _ _ (moves-grow _ _) (l .loop .inv) h _ (move-piece (s .args .shape) J L h _ _ _ (m .maker .ensures) (x .before .reader .ensures) (t .move-start .ensures) (e ∙ t .before .if2 .taken))
+
+add-i : tie.Need-add-i Inv-loop μ-loop
+add-i c = search needs
+
+loop-less : tie.Need-loop-less Inv-loop μ-loop
+loop-less c = search needs
+
+loop-again : tie.Need-loop-again Inv-loop μ-loop
+loop-again c =
+    let x = c .before .before .before .before .before .before in
+    let m = x .before .before in
+    let l = m .before .before .before in
+    let s = l .before .before in
+    let h = m .before .if1 .taken in
+    let J = jobOf (now (s .args .job)) in
+    let L = planOf (now (s .args .plan)) in
+    let e = moved-in (s .pre .0) L h (m .maker .ensures) (x .before .reader .ensures) (x .crosses .ensures) in
+    let w = c .before .before in
+    let t = w .before .before in
+    laid-next _ _ (moves-grow _ _) (l .loop .inv) h _ (move-piece (s .args .shape) J L h _ _ _ (m .maker .ensures) (x .before .reader .ensures) (t .move-start .ensures) (e ∙ t .before .if2 .taken)) _ _ (w .write-move .ensures)
+
+add-at : tie.Need-add-at Inv-loop μ-loop
+add-at c =
+    let r = loop-again c in
+    omega (arith, laid-within _ _ (moves-grow _ _) r, laid-length _ _ (moves-grow _ _) r)
+
+add-i-2 : tie.Need-add-i-2 Inv-loop μ-loop
+add-i-2 c = search needs
+
+loop-less-2 : tie.Need-loop-less-2 Inv-loop μ-loop
+loop-less-2 c = search needs
+
+loop-again-2 : tie.Need-loop-again-2 Inv-loop μ-loop
+loop-again-2 c =
+    let x = c .before in
+    let m = x .before .before in
+    let l = m .before .before .before in
+    let s = l .before .before in
+    let h = m .before .if1 .taken in
+    let J = jobOf (now (s .args .job)) in
+    let L = planOf (now (s .args .plan)) in
+    let e = moved-in (s .pre .0) L h (m .maker .ensures) (x .before .reader .ensures) (x .crosses .ensures) in
+    laid-skip _ _ (moves-grow _ _) (l .loop .inv) h (no-piece (s .args .shape) J L h (e ∙ c .if2 .left))
+
+same-length : tie.Need-same-length Inv-loop μ-loop
+same-length c = laid-length _ _ (moves-grow _ _) (c .before .before .loop .inv)
+
+returns : tie.Need-returns Inv-loop μ-loop
+returns c = laid-all (c .before .before .loop .inv) (c .if1 .left)
+
+pub write-moves-spec : {M : Type 1} → statement M
+write-moves-spec =
+    tie.close
+    (tie.spec
+    Inv-loop
+    μ-loop
+    loop-holds
+    maker-requires
+    reader-requires
+    crosses-requires
+    move-start-requires
+    sub-write-move
+    part-write-move-start
+    part-write-move-end
+    add-write-move
+    add-write-move-2
+    write-move-requires
+    add-at
+    add-i
+    loop-less
+    loop-again
+    add-i-2
+    loop-less-2
+    loop-again-2
+    same-length
+    returns)

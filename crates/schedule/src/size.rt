@@ -1,0 +1,97 @@
+// How many bytes a timetable takes.
+ghost use mathlib.Core.Path.{_≡_};
+ghost use mathlib.Core.List.{_++_};
+ghost use Prim.Native.Nat.{_*_, _≤_};
+ghost use lib.ListN.{length};
+ghost use Rattle.rules.specs.Limits.{maxTasks, maxFiles};
+ghost use Rattle.rules.specs.Text.{lf};
+ghost use Rattle.rules.specs.ScheduleText.{runLine, moveLine, claimLine, scheduleBytes, runLines, moveLines, scheduleText};
+ghost use Rattle.model.specs.Layout.{jobOf, planOf, instanceFrom, scheduleFrom, JobBounds};
+ghost use Rattle.model.specs.Claims.{asClaim};
+ghost use Rattle.schedule.specs.Sizes.{longest};
+use crate::crossing::crosses;
+use model::claim::Claim;
+use model::layout;
+use model::layout::Shape;
+
+// The bytes of a run's line.
+fn run_size(i: u64, processor: u64, start: u64) -> usize
+    ensures { λ r. ⌜ r ≡ length (scheduleBytes (runLine i (record { processor = processor; start = start })) ++ lf) ⌝ }
+    ensures { λ r. ⌜ r ≤ longest ⌝ }
+{
+    let numbers = [i, processor, start];
+    text::line_size(b"(run # # #)", &numbers)
+}
+
+// The bytes of a move's line.
+fn move_size(i: u64, j: u64, start: u64) -> usize
+    ensures { λ r. ⌜ r ≡ length (scheduleBytes (moveLine i j start) ++ lf) ⌝ }
+    ensures { λ r. ⌜ r ≤ longest ⌝ }
+{
+    let numbers = [i, j, start];
+    text::line_size(b"(move # # #)", &numbers)
+}
+
+// The bytes of the claim's line.
+fn claim_size(span: u64, blue: u64, red: u64) -> usize
+    ensures { λ r. ⌜ r ≡ length (scheduleBytes (claimLine (record { span = span; bluePeak = blue; redPeak = red })) ++ lf) ⌝ }
+    ensures { λ r. ⌜ r ≤ longest ⌝ }
+{
+    let numbers = [span, blue, red];
+    text::line_size(b"(claim # # #)", &numbers)
+}
+
+// The bytes of all runs' lines.
+fn runs_size(shape: Shape, plan: &[u64; layout::PLAN]) -> usize
+    requires { ⌜ shape .tasks ≤ maxTasks ⌝ }
+    ensures { λ r. ⌜ r ≡ length (runLines (scheduleFrom shape (planOf (now (plan .entry)))) (shape .tasks)) ⌝ }
+    ensures { λ r. ⌜ r ≤ longest * maxTasks ⌝ }
+{
+    let mut n: usize = 0;
+    let mut i: usize = 0;
+    while i < shape.tasks {
+        n += run_size(
+            (i + 1) as u64,
+            layout::processor(plan, i),
+            layout::start(plan, i),
+        );
+        i += 1;
+    }
+    n
+}
+
+// The bytes of all moves' lines.
+fn moves_size<'a>(shape: Shape, job: &'a [u64; layout::JOB], plan: &'a [u64; layout::PLAN]) -> usize
+    requires { ⌜ JobBounds shape (jobOf (now job)) ⌝ }
+    ensures { λ r. ⌜ r ≡ length (moveLines (instanceFrom shape (jobOf (now (job .entry)))) (scheduleFrom shape (planOf (now (plan .entry)))) (shape .files)) ⌝ }
+    ensures { λ r. ⌜ r ≤ longest * maxFiles ⌝ }
+{
+    let mut n: usize = 0;
+    let mut i: usize = 0;
+    while i < shape.files {
+        let maker = layout::maker(job, i);
+        let reader = layout::reader(job, i);
+        if crosses(shape, plan, maker as usize, reader as usize) {
+            n += move_size(maker + 1, reader + 1, layout::move_start(plan, i));
+            i += 1;
+        } else {
+            i += 1;
+        }
+    }
+    n
+}
+
+// The bytes of a timetable.
+pub fn schedule_size<'a>(
+    shape: Shape,
+    job: &'a [u64; layout::JOB],
+    plan: &'a [u64; layout::PLAN],
+    claim: Claim,
+) -> usize
+    requires { ⌜ JobBounds shape (jobOf (now job)) ⌝ }
+    ensures { λ r. ⌜ r ≡ length (scheduleText (instanceFrom shape (jobOf (now (job .entry)))) (scheduleFrom shape (planOf (now (plan .entry)))) (asClaim claim)) ⌝ }
+{
+    let runs = runs_size(shape, plan);
+    let moves = moves_size(shape, job, plan);
+    runs + moves + claim_size(claim.span, claim.blue_peak, claim.red_peak)
+}

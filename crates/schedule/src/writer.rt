@@ -1,0 +1,106 @@
+// Writes a timetable: each line behind the lines already laid down.
+ghost use mathlib.Core.List.{_++_};
+ghost use Prim.Native.Nat.{_≤_};
+ghost use lib.ListN.{length};
+ghost use Rattle.rules.specs.Limits.{maxTasks};
+ghost use Rattle.rules.specs.Text.{lf};
+ghost use Rattle.rules.specs.ScheduleText.{runLine, moveLine, claimLine, scheduleBytes, runLines, moveLines, scheduleText};
+ghost use Rattle.text.specs.Wrote.{Wrote};
+ghost use Rattle.model.specs.Layout.{jobOf, planOf, instanceFrom, scheduleFrom, JobBounds};
+ghost use Rattle.model.specs.Claims.{asClaim};
+use crate::crossing::crosses;
+use model::claim::Claim;
+use model::layout;
+use model::layout::Shape;
+
+// Writes a run's line at the front of `out`, and returns how many bytes that takes; so do all writers here.
+fn write_run(out: &mut [u8], i: u64, processor: u64, start: u64) -> usize
+    requires { ⌜ length (scheduleBytes (runLine i (record { processor = processor; start = start })) ++ lf) ≤ length (now out) ⌝ }
+    ensures { λ r. ⌜ Wrote (scheduleBytes (runLine i (record { processor = processor; start = start })) ++ lf) r (now (out .entry)) (now (out .exit)) ⌝ }
+{
+    let numbers = [i, processor, start];
+    text::write_line(out, b"(run # # #)", &numbers)
+}
+
+// Writes a move's line.
+fn write_move(out: &mut [u8], i: u64, j: u64, start: u64) -> usize
+    requires { ⌜ length (scheduleBytes (moveLine i j start) ++ lf) ≤ length (now out) ⌝ }
+    ensures { λ r. ⌜ Wrote (scheduleBytes (moveLine i j start) ++ lf) r (now (out .entry)) (now (out .exit)) ⌝ }
+{
+    let numbers = [i, j, start];
+    text::write_line(out, b"(move # # #)", &numbers)
+}
+
+// Writes the claim's line.
+fn write_claim(out: &mut [u8], claim: Claim) -> usize
+    requires { ⌜ length (scheduleBytes (claimLine (asClaim claim)) ++ lf) ≤ length (now out) ⌝ }
+    ensures { λ r. ⌜ Wrote (scheduleBytes (claimLine (asClaim claim)) ++ lf) r (now (out .entry)) (now (out .exit)) ⌝ }
+{
+    let numbers = [claim.span, claim.blue_peak, claim.red_peak];
+    text::write_line(out, b"(claim # # #)", &numbers)
+}
+
+// Writes the runs, a line for each task.
+fn write_runs(shape: Shape, plan: &[u64; layout::PLAN], out: &mut [u8]) -> usize
+    requires { ⌜ shape .tasks ≤ maxTasks ⌝ }
+    requires { ⌜ length (runLines (scheduleFrom shape (planOf (now plan))) (shape .tasks)) ≤ length (now out) ⌝ }
+    ensures { λ r. ⌜ Wrote (runLines (scheduleFrom shape (planOf (now (plan .entry)))) (shape .tasks)) r (now (out .entry)) (now (out .exit)) ⌝ }
+{
+    let mut at: usize = 0;
+    let mut i: usize = 0;
+    while i < shape.tasks {
+        let processor = layout::processor(plan, i);
+        let start = layout::start(plan, i);
+        let n = write_run(&mut out[at..], (i + 1) as u64, processor, start);
+        at += n;
+        i += 1;
+    }
+    at
+}
+
+// Writes the moves, a line for each file whose tasks run in memories of different colour.
+fn write_moves<'a>(
+    shape: Shape,
+    job: &'a [u64; layout::JOB],
+    plan: &'a [u64; layout::PLAN],
+    out: &mut [u8],
+) -> usize
+    requires { ⌜ JobBounds shape (jobOf (now job)) ⌝ }
+    requires { ⌜ length (moveLines (instanceFrom shape (jobOf (now job))) (scheduleFrom shape (planOf (now plan))) (shape .files)) ≤ length (now out) ⌝ }
+    ensures { λ r. ⌜ Wrote (moveLines (instanceFrom shape (jobOf (now (job .entry)))) (scheduleFrom shape (planOf (now (plan .entry)))) (shape .files)) r (now (out .entry)) (now (out .exit)) ⌝ }
+{
+    let mut at: usize = 0;
+    let mut i: usize = 0;
+    while i < shape.files {
+        let maker = layout::maker(job, i);
+        let reader = layout::reader(job, i);
+        if crosses(shape, plan, maker as usize, reader as usize) {
+            let start = layout::move_start(plan, i);
+            let n = write_move(&mut out[at..], maker + 1, reader + 1, start);
+            at += n;
+            i += 1;
+        } else {
+            i += 1;
+        }
+    }
+    at
+}
+
+// Writes a timetable.
+pub fn write<'a>(
+    shape: Shape,
+    job: &'a [u64; layout::JOB],
+    plan: &'a [u64; layout::PLAN],
+    claim: Claim,
+    out: &mut [u8],
+) -> usize
+    requires { ⌜ JobBounds shape (jobOf (now job)) ⌝ }
+    requires { ⌜ length (scheduleText (instanceFrom shape (jobOf (now job))) (scheduleFrom shape (planOf (now plan))) (asClaim claim)) ≤ length (now out) ⌝ }
+    ensures { λ r. ⌜ Wrote (scheduleText (instanceFrom shape (jobOf (now (job .entry)))) (scheduleFrom shape (planOf (now (plan .entry)))) (asClaim claim)) r (now (out .entry)) (now (out .exit)) ⌝ }
+{
+    let runs_end = write_runs(shape, plan, out);
+    let moves = write_moves(shape, job, plan, &mut out[runs_end..]);
+    let moves_end = runs_end + moves;
+    let last = write_claim(&mut out[moves_end..], claim);
+    moves_end + last
+}
