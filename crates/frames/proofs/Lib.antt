@@ -2,3 +2,5 @@
 pub mod DemandLaws
 -- the marker, by what was read
 pub mod MarkLaws
+-- a planner, by what was read and made
+pub mod PlanLaws

@@ -1,5 +1,9 @@
 // The public calls. None asks anything of its caller: any bytes may be handed in.
 mod marker;
+mod planners;
 
 pub use marker::fault_line;
 pub use marker::mark;
+pub use planners::Answer;
+pub use planners::mem_heft;
+pub use planners::mem_min_min;
