@@ -4,3 +4,5 @@ pub mod DemandLaws
 pub mod MarkLaws
 -- a planner, by what was read and made
 pub mod PlanLaws
+-- the exported calls
+pub mod ExportLaws

@@ -2,3 +2,4 @@
 pub mod Demands
 pub mod Marking
 pub mod Planning
+pub mod Exports

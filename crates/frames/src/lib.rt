@@ -1,4 +1,5 @@
 // The public calls. None asks anything of its caller: any bytes may be handed in.
+mod exports;
 mod marker;
 mod planners;
 

@@ -1,0 +1,52 @@
+// The public calls for C and Rust: a text as a pointer and a length, an answer as numbers in a lent array.
+ghost use mathlib.Core.Path.{_≡_};
+ghost use mathlib.Core.Bool.{cond};
+ghost use lib.Dec.{leb};
+ghost use lib.ListN.{length};
+ghost use Rattle.rules.specs.Calls.{mark as rules-mark, faultLine, overwritten, plan as rules-plan};
+ghost use Rattle.rules.specs.Scheduling.{memHeft, memMinMin};
+ghost use Rattle.frames.specs.Exports.{verdictNumbers, answerNumbers};
+use crate::marker;
+use crate::planners;
+
+// Number, place, span, blue peak and red peak of `mark`.
+#[no_mangle]
+pub extern "C" fn frames_mark<'a>(sheet: &'a [u8], paper: &'a [u8], result: &mut [u64; 5])
+    ensures { λ r. ⌜ now (result .exit) ≡ verdictNumbers (rules-mark (now (sheet .entry)) (now (paper .entry))) ⌝ }
+{
+    let v = marker::mark(sheet, paper);
+    *result = [v.number, v.place, v.span, v.blue_peak, v.red_peak];
+}
+
+// The line of `fault_line`, copied to the front of `line` if it fits there; answers its length.
+#[no_mangle]
+pub extern "C" fn frames_fault_line<'a>(sheet: &'a [u8], paper: &'a [u8], line: &mut [u8]) -> usize
+    ensures { λ r. ⌜ r ≡ length (faultLine (now (sheet .entry)) (now (paper .entry))) ⌝ }
+    ensures { λ r. ⌜ now (line .exit) ≡ cond (leb (length (faultLine (now (sheet .entry)) (now (paper .entry)))) (length (now (line .entry)))) (overwritten (faultLine (now (sheet .entry)) (now (paper .entry))) (now (line .entry))) (now (line .entry)) ⌝ }
+{
+    let found = marker::fault_line(sheet, paper);
+    if line.len() < found.len() {
+        return found.len();
+    }
+    bytes::copy(found, line)
+}
+
+// Number, place and trials of `mem_heft`; the timetable is in `out`.
+#[no_mangle]
+pub extern "C" fn frames_mem_heft(sheet: &[u8], out: &mut [u8], result: &mut [u64; 3])
+    ensures { λ r. ⌜ now (result .exit) ≡ answerNumbers (rules-plan memHeft (now (sheet .entry)) (now (out .entry))) ⌝ }
+    ensures { λ r. ⌜ now (out .exit) ≡ rules-plan memHeft (now (sheet .entry)) (now (out .entry)) .buffer ⌝ }
+{
+    let a = planners::mem_heft(sheet, out);
+    *result = [a.number, a.place, a.trials];
+}
+
+// The same of `mem_min_min`.
+#[no_mangle]
+pub extern "C" fn frames_mem_min_min(sheet: &[u8], out: &mut [u8], result: &mut [u64; 3])
+    ensures { λ r. ⌜ now (result .exit) ≡ answerNumbers (rules-plan memMinMin (now (sheet .entry)) (now (out .entry))) ⌝ }
+    ensures { λ r. ⌜ now (out .exit) ≡ rules-plan memMinMin (now (sheet .entry)) (now (out .entry)) .buffer ⌝ }
+{
+    let a = planners::mem_min_min(sheet, out);
+    *result = [a.number, a.place, a.trials];
+}
