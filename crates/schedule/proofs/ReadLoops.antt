@@ -1,8 +1,9 @@
 -- Where the reader stands, step by step: what is left to be read is the whole answer.
 use Prim.Native.Nat.{ℕ, suc, _+_, _-_, _*_, _≤_, _<_}
-use mathlib.Core.Path.{_≡_, refl, sym, ap, ap₂, _∙_}
+use mathlib.Core.Path.{_≡_, refl, sym, ap, ap₂, subst, _∙_}
 use mathlib.Core.Bool.{true, false}
 use mathlib.Core.List.{List, [], _∷_}
+use mathlib.Core.Option.{Option}
 use native.Mathlib.Nat.{sub-zero}
 use native.Mathlib.Omega.{arith}
 use native.Mathlib.Numerals.{add-one}
@@ -13,11 +14,13 @@ use lib.Dec.{eqb}
 use lib.ListN.{length, drop, set, length-drop, drop-of-length-le}
 use Rattle.rules.specs.Count.{listBelow}
 use Rattle.rules.specs.Limits.{maxTasks, maxFiles}
-use Rattle.rules.specs.Model.{Instance, Schedule, taskCount, fileCount, fileAt, moved}
-use Rattle.rules.specs.Text.{Fault, undue, Line, linesOf, wrong, right, due, faultOf}
+use Rattle.rules.specs.Model.{Instance, Schedule, taskCount, fileCount, moved}
+use Rattle.rules.specs.Text.{Fault, undue, Line, linesOf, Reading, wrong, right, due, faultOf}
 use Rattle.rules.specs.Validity.{Claim}
-use Rattle.rules.specs.ScheduleText.{runOf, ScheduleRead, refused, read, readEnd, readClaim, readMoves, readRuns}
+use Rattle.rules.specs.ScheduleText.{ScheduleLine, runOf, moveOf, ScheduleRead, refused, read, readEnd, readClaim, readMoves, readRuns}
 use Rattle.rules.proofs.LineLaws.{no-lines}
+use Rattle.text.specs.declared.faults.Fault.{Fault as CodeFault}
+use Rattle.text.specs.Faults.{asFault}
 use Rattle.text.proofs.FirstLineLaws.{no-line}
 use Rattle.model.specs.declared.layout.Shape.{Shape}
 use Rattle.model.specs.Layout.{Job, Plan, planOf, instanceFrom, scheduleFrom, JobBounds}
@@ -26,9 +29,11 @@ use Rattle.schedule.proofs.lines.Line.{the-type}
 use Rattle.model.specs.declared.claim.Claim.{Claim as Numbers}
 use Rattle.schedule.specs.declared.lines.Line.{Line as Said}
 use Rattle.schedule.specs.declared.lines.Line.the-variants as Code
+use Rattle.schedule.specs.declared.reader.MoveRead.{MoveRead}
+use Rattle.schedule.specs.declared.reader.MoveRead.the-variants as Move
 use Rattle.model.specs.Claims.{asClaim}
 use Rattle.schedule.specs.Lines.{asReading}
-use Rattle.schedule.specs.Reading.{LineAt, nothing, runsOf}
+use Rattle.schedule.specs.Reading.{LineAt, Told, Taken, nothing, runsOf}
 use Rattle.schedule.proofs.DueLaws.{not-run, run-refused, run-taken, fileDue, not-move, move-refused, move-taken, move-passed, not-claim, claim-refused, claim-taken, end-refused}
 use Rattle.schedule.proofs.StoreLaws.{movesOf, run-stored, move-stored}
 
@@ -125,6 +130,35 @@ module _ {b : Shape} {bs plan : List ℕ} {at i : ℕ} (q : RunsRead b bs plan a
         left = λ J. run-on h J said (o J) j p s e z few long;
       })
 
+-- ---- a move's line
+module _ {I : Instance} {bs : List ℕ} {at next : ℕ} (said : Said) (o : LineAt I bs at (asReading said) next) (maker reader : ℕ) where
+  abbrev Due : ScheduleLine → Option ℕ
+  Due = moveOf (suc maker) (suc reader)
+
+  told : (y : Reading ℕ) → due Due (asReading said) ≡ y → Told I bs at Due y next
+  told y e = record { line = asReading said; read = o; due = e }
+
+  pub move-other : OneOf (0 ∷ 2 ∷ 3 ∷ 4 ∷ []) (tagOf the-type said) → (w : Fault) → w ≡ faultOf (asReading said) → Told I bs at Due (wrong w) next
+  move-other g w e = told (wrong w) (not-move _ _ said g ∙ ap wrong (sym e))
+
+  module _ (x y t : ℕ) (e : said ≡ Code.Move x y t) where
+    pub move-undue-maker : (x ≡ maker + 1 → ⊥) → Told I bs at Due (wrong undue) next
+    move-undue-maker n =
+        let z : eqb x (suc maker) ≡ false = ne-eqb x _ (λ s. n (s ∙ sym (add-one maker))) in
+        told (wrong undue) (rw (e, z))
+
+    pub move-undue-reader : x ≡ maker + 1 → (y ≡ reader + 1 → ⊥) → Told I bs at Due (wrong undue) next
+    move-undue-reader a n =
+        let z : eqb x (suc maker) ≡ true = eq-eqb x _ (a ∙ add-one maker) in
+        let w : eqb y (suc reader) ≡ false = ne-eqb y _ (λ s. n (s ∙ sym (add-one reader))) in
+        told (wrong undue) (rw (e, z, w))
+
+    pub move-start : x ≡ maker + 1 → y ≡ reader + 1 → Told I bs at Due (right t) next
+    move-start a c =
+        let z : eqb x (suc maker) ≡ true = eq-eqb x _ (a ∙ add-one maker) in
+        let w : eqb y (suc reader) ≡ true = eq-eqb y _ (c ∙ add-one reader) in
+        told (right t) (rw (e, z, w))
+
 -- ---- the moves of the first i files are read, from the line that starts at `from`, with the number `line`, on
 pub record MovesRead (b : Shape) (J : Job) (bs old plan : List ℕ) (from line at k i : ℕ) : Type 0 where
   pub passed : i ≤ b .files
@@ -171,49 +205,32 @@ module _ {b : Shape} {J : Job} {bs old plan : List ℕ} {from line at k i : ℕ}
     in-files : i < fileCount JI
     in-files = omega (arith, file-count b J)
 
-    module _ (m : moved JI soFar i ≡ true) (said : Said) {next : ℕ} (o : LineAt JI bs at (asReading said) next) where
-      refused-move : (w : Fault) → due (fileDue JI i) (asReading said) ≡ wrong w → refused w k ≡ whole
-      refused-move w e = sym (q .left ∙ move-refused o soFar k i in-files m w e)
+    -- the move that is due, as the code has it
+    file-due : (maker reader : ℕ) → maker ≡ J .maker i → reader ≡ J .reader i → moveOf (suc maker) (suc reader) ≡ fileDue JI i
+    file-due maker reader u v = rw (u, v, maker-at b J i h, reader-at b J i h)
 
-      pub moves-other : OneOf (0 ∷ 2 ∷ 3 ∷ 4 ∷ []) (tagOf the-type said) → (w : Fault) → w ≡ faultOf (asReading said) → refused w k ≡ whole
-      moves-other g w e = ap (λ (v : Fault). refused v k) e ∙ refused-move _ (not-move _ _ said g)
+    module _ (m : moved JI soFar i ≡ true) {maker reader : ℕ} (u : maker ≡ J .maker i) (v : reader ≡ J .reader i) where
+      abbrev Here : MoveRead → Type 0
+      Here r = Taken JI bs at (moveOf (suc maker) (suc reader)) r
 
-      module _ (x y t maker reader : ℕ) (e : said ≡ Code.Move x y t) (u : maker ≡ J .maker i) (v : reader ≡ J .reader i) where
-        is-maker : maker + 1 ≡ suc (fileAt JI i .maker)
-        is-maker = omega (arith, maker-at b J i h)
+      pub moves-refused : (r : MoveRead) → Here r → (w : CodeFault) → r ≡ Move.Refused w → refused (asFault w) k ≡ whole
+      moves-refused r t w e =
+          let (next, d) = subst Here e t in
+          sym (q .left ∙ move-refused (d .read) soFar k i in-files m (asFault w) (ap (λ f. due f (d .line)) (sym (file-due maker reader u v)) ∙ d .due))
 
-        is-reader : reader + 1 ≡ suc (fileAt JI i .reader)
-        is-reader = omega (arith, reader-at b J i h)
-
-        pub moves-undue-maker : (x ≡ maker + 1 → ⊥) → refused undue k ≡ whole
-        moves-undue-maker n =
-            let z : eqb x (suc (fileAt JI i .maker)) ≡ false = ne-eqb x _ (λ s. n (s ∙ sym is-maker)) in
-            refused-move undue (rw (e, z))
-
-        pub moves-undue-reader : x ≡ maker + 1 → (y ≡ reader + 1 → ⊥) → refused undue k ≡ whole
-        moves-undue-reader a n =
-            let z : eqb x (suc (fileAt JI i .maker)) ≡ true = eq-eqb x _ (a ∙ is-maker) in
-            let w : eqb y (suc (fileAt JI i .reader)) ≡ false = ne-eqb y _ (λ s. n (s ∙ sym is-reader)) in
-            refused-move undue (rw (e, z, w))
-
-        move-due : x ≡ maker + 1 → y ≡ reader + 1 → due (fileDue JI i) (asReading said) ≡ right t
-        move-due a c =
-            let z : eqb x (suc (fileAt JI i .maker)) ≡ true = eq-eqb x _ (a ∙ is-maker) in
-            let w : eqb y (suc (fileAt JI i .reader)) ≡ true = eq-eqb y _ (c ∙ is-reader) in
-            rw (e, z, w)
-
-        module _ (bounds : JobBounds b J) (long : length plan ≡ 2 * maxTasks + maxFiles) (new : List ℕ) (stored : new ≡ set plan (2 * maxTasks + i) t) where
-          pub moves-next : x ≡ maker + 1 → y ≡ reader + 1 → next ≤ length bs → MovesRead b J bs old new from line next (k + 1) (i + 1)
-          moves-next a c n =
-              rw (add-one i, add-one k, stored)
-              (record {
-                passed = h;
-                within = n;
-                few = omega (arith, q .few);
-                left =
-                    q .left ∙ move-taken o soFar k i in-files m t (move-due a c)
-                    ∙ ap (λ P. readMoves JI (fileCount JI - suc i) P (suc k) (linesOf (drop next bs))) (sym (move-stored plan long i t (omega (arith, bounds .files)) (b .tasks) (bounds .tasks)));
-              })
+      pub moves-next : (r : MoveRead) → Here r → (t next : ℕ) → r ≡ Move.Start t next → JobBounds b J → length plan ≡ 2 * maxTasks + maxFiles
+          → (new : List ℕ) → new ≡ set plan (2 * maxTasks + i) t → MovesRead b J bs old new from line next (k + 1) (i + 1)
+      moves-next r o t next e bounds long new stored =
+          let (d, n) = subst Here e o in
+          rw (add-one i, add-one k, stored)
+          (record {
+            passed = h;
+            within = n;
+            few = omega (arith, q .few);
+            left =
+                q .left ∙ move-taken (d .read) soFar k i in-files m t (ap (λ f. due f (d .line)) (sym (file-due maker reader u v)) ∙ d .due)
+                ∙ ap (λ P. readMoves JI (fileCount JI - suc i) P (suc k) (linesOf (drop next bs))) (sym (move-stored plan long i t (omega (arith, bounds .files)) (b .tasks) (bounds .tasks)));
+          })
 
     pub moves-skip : moved JI soFar i ≡ false → JobBounds b J → length plan ≡ 2 * maxTasks + maxFiles → (new : List ℕ) → new ≡ set plan (2 * maxTasks + i) 0
         → MovesRead b J bs old new from line at k (i + 1)

@@ -2,10 +2,11 @@
 use Prim.Native.Nat.{ℕ, suc, _≤_}
 use mathlib.Core.Path.{_≡_}
 use mathlib.Core.List.{List, [], _∷_}
+use mathlib.Core.Option.{Option}
 use lib.ListN.{length, drop}
 use Rattle.rules.specs.Count.{listBelow}
 use Rattle.rules.specs.Model.{Instance, Schedule}
-use Rattle.rules.specs.Text.{Line, linesOf, Reading, wrong, malformed}
+use Rattle.rules.specs.Text.{Line, linesOf, Reading, wrong, right, malformed, due}
 use Rattle.rules.specs.ScheduleText as Rules
 use Rattle.rules.specs.ScheduleText.{ScheduleLine, scheduleLine}
 use Rattle.text.specs.Faults.{asFault}
@@ -14,6 +15,8 @@ use Rattle.schedule.specs.declared.reader.ScheduleRead.{ScheduleRead}
 use Rattle.schedule.specs.declared.reader.ScheduleRead.the-variants as Answer
 use Rattle.schedule.specs.declared.reader.Progress.{Progress}
 use Rattle.schedule.specs.declared.reader.Progress.the-variants as Progress
+use Rattle.schedule.specs.declared.reader.MoveRead.{MoveRead}
+use Rattle.schedule.specs.declared.reader.MoveRead.the-variants as Move
 use Rattle.model.specs.Claims.{asClaim}
 
 -- the answer, as the rules have it, with the schedule that the plan then holds
@@ -25,6 +28,16 @@ asRead P (Answer.Refused f k) = Rules.refused (asFault f) k
 pub data LineAt (I : Instance) (bs : List ℕ) (at : ℕ) (x : Reading ScheduleLine) (next : ℕ) : Type 0 where
   absent : linesOf (drop at bs) ≡ [] → x ≡ wrong malformed → LineAt I bs at x next
   there : (l : Line) → linesOf (drop at bs) ≡ l ∷ linesOf (drop next bs) → x ≡ scheduleLine I l → LineAt I bs at x next
+
+-- a line is due from which `f` takes a move's start: the line that starts at `at` is taken or refused
+pub record Told (I : Instance) (bs : List ℕ) (at : ℕ) (f : ScheduleLine → Option ℕ) (told : Reading ℕ) (next : ℕ) : Type 0 where
+  pub line : Reading ScheduleLine
+  pub read : LineAt I bs at line next
+  pub due : due f line ≡ told
+
+abbrev pub Taken : Instance → List ℕ → ℕ → (ScheduleLine → Option ℕ) → MoveRead → Type 0
+Taken I bs at f (Move.Start t next) = Told I bs at f (right t) next × (next ≤ length bs)
+Taken I bs at f (Move.Refused w) = (next : ℕ) × Told I bs at f (wrong (asFault w)) next
 
 -- the whole answer: `rest` of the next line's number and the lines from there on, or the refusal
 abbrev pub goesOn : (ℕ → List Line → Rules.ScheduleRead) → List ℕ → Progress → Rules.ScheduleRead

@@ -14,6 +14,13 @@ use rules::between;
 use text::Fault;
 use text::Numbers;
 
+// The three forms; `#` stands for a number.
+pub const RUN_FORM: [u8; 11] = *b"(run # # #)";
+
+pub const MOVE_FORM: [u8; 12] = *b"(move # # #)";
+
+pub const CLAIM_FORM: [u8; 13] = *b"(claim # # #)";
+
 pub enum Line {
     Run { i: u64, processor: u64, start: u64 },
     Move { i: u64, j: u64, start: u64 },
@@ -99,7 +106,7 @@ pub fn parse(shape: Shape, line: &[u8]) -> Line
         second,
         third,
         fourth: _,
-    } = text::scan(b"(run # # #)", line) {
+    } = text::scan(&RUN_FORM, line) {
         return run_of(shape, first, second, third);
     }
     if let Numbers::Are {
@@ -107,7 +114,7 @@ pub fn parse(shape: Shape, line: &[u8]) -> Line
         second,
         third,
         fourth: _,
-    } = text::scan(b"(move # # #)", line) {
+    } = text::scan(&MOVE_FORM, line) {
         return move_of(first, second, third);
     }
     if let Numbers::Are {
@@ -115,7 +122,7 @@ pub fn parse(shape: Shape, line: &[u8]) -> Line
         second,
         third,
         fourth: _,
-    } = text::scan(b"(claim # # #)", line) {
+    } = text::scan(&CLAIM_FORM, line) {
         return claim_of(first, second, third);
     }
     Line::Malformed

@@ -1,14 +1,14 @@
 // Reads a timetable: its due lines, one after the other.
 ghost use mathlib.Core.Path.{_≡_};
-ghost use Prim.Native.Nat.{_+_, _<_, _≤_};
+ghost use Prim.Native.Nat.{suc, _+_, _<_, _≤_};
 ghost use lib.ListN.{length, drop, set};
 ghost use Rattle.rules.specs.Limits.{maxTasks, maxFiles};
 ghost use Rattle.rules.specs.Model.{Schedule, taskCount, fileCount};
 ghost use Rattle.rules.specs.Text.{linesOf};
-ghost use Rattle.rules.specs.ScheduleText.{readClaim, readMoves, readRuns, readSchedule};
+ghost use Rattle.rules.specs.ScheduleText.{moveOf, readClaim, readMoves, readRuns, readSchedule};
 ghost use Rattle.model.specs.Layout.{Job, jobOf, planOf, instanceFrom, scheduleFrom, JobBounds};
 ghost use Rattle.schedule.specs.Lines.{Processors, asReading};
-ghost use Rattle.schedule.specs.Reading.{LineAt, asRead, goesOn, InText, nothing, runsOf};
+ghost use Rattle.schedule.specs.Reading.{LineAt, Taken, asRead, goesOn, InText, nothing, runsOf};
 use crate::crossing::crosses;
 use crate::lines::Line;
 use crate::lines::fault_of;
@@ -29,6 +29,12 @@ pub enum ScheduleRead {
 enum Progress {
     At(usize, u64),
     Refused(Fault, u64),
+}
+
+// A move's start and where the next line starts, or the fault of a line that is not this move's.
+enum MoveRead {
+    Start(u64, usize),
+    Refused(Fault),
 }
 
 // A line, and where the next one starts.
@@ -98,6 +104,27 @@ fn read_runs(shape: Shape, paper: &[u8], plan: &mut [u64; layout::PLAN]) -> Prog
     Progress::At(at, (i + 1) as u64)
 }
 
+// The line that starts at `at`, where the move of a file from task `maker` to task `reader`, counted from 0, is due.
+fn move_at(shape: Shape, paper: &[u8], at: usize, maker: u64, reader: u64) -> MoveRead
+    requires { ⌜ Processors shape ⌝ }
+    requires { ⌜ at ≤ length (now paper) ⌝ }
+    requires { ⌜ (maker < maxTasks) × (reader < maxTasks) ⌝ }
+    ensures { λ r. ⌜ ((J : Job) → Taken (instanceFrom shape J) (now (paper .entry)) at (moveOf (suc maker) (suc reader)) r) ⌝ }
+{
+    let cut = line_at(shape, paper, at);
+    let said = cut.said;
+    let Line::Move { i, j, start } = said else {
+        return MoveRead::Refused(fault_of(said));
+    };
+    if i != maker + 1 {
+        return MoveRead::Refused(Fault::Undue);
+    }
+    if j != reader + 1 {
+        return MoveRead::Refused(Fault::Undue);
+    }
+    MoveRead::Start(start, cut.next)
+}
+
 // Reads the moves into the plan, from `from` on: a line, the first of which has the number `line`, for each file
 // whose tasks run in memories of different colour. The move start of any other file is 0.
 fn read_moves<'a>(
@@ -120,26 +147,15 @@ fn read_moves<'a>(
         let maker = layout::maker(job, i);
         let reader = layout::reader(job, i);
         if crosses(shape, plan, maker as usize, reader as usize) {
-            let cut = line_at(shape, paper, at);
-            let said = cut.said;
-            let Line::Move {
-                i: from_task,
-                j: to_task,
-                start,
-            } = said
-            else {
-                return Progress::Refused(fault_of(said), k);
-            };
-            if from_task != maker + 1 {
-                return Progress::Refused(Fault::Undue, k);
+            match move_at(shape, paper, at, maker, reader) {
+                MoveRead::Refused(fault) => return Progress::Refused(fault, k),
+                MoveRead::Start(start, next) => {
+                    store(plan, layout::MOVE_START + i, start);
+                    at = next;
+                    k += 1;
+                    i += 1;
+                }
             }
-            if to_task != reader + 1 {
-                return Progress::Refused(Fault::Undue, k);
-            }
-            store(plan, layout::MOVE_START + i, start);
-            at = cut.next;
-            k += 1;
-            i += 1;
         } else {
             store(plan, layout::MOVE_START + i, 0);
             i += 1;

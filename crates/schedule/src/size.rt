@@ -10,6 +10,9 @@ ghost use Rattle.model.specs.Layout.{jobOf, planOf, instanceFrom, scheduleFrom,
 ghost use Rattle.model.specs.Claims.{asClaim};
 ghost use Rattle.schedule.specs.Sizes.{longest};
 use crate::crossing::crosses;
+use crate::lines::CLAIM_FORM;
+use crate::lines::MOVE_FORM;
+use crate::lines::RUN_FORM;
 use model::claim::Claim;
 use model::layout;
 use model::layout::Shape;
@@ -20,7 +23,7 @@ fn run_size(i: u64, processor: u64, start: u64) -> usize
     ensures { λ r. ⌜ r ≤ longest ⌝ }
 {
     let numbers = [i, processor, start];
-    text::line_size(b"(run # # #)", &numbers)
+    text::line_size(&RUN_FORM, &numbers)
 }
 
 // The bytes of a move's line.
@@ -29,7 +32,7 @@ fn move_size(i: u64, j: u64, start: u64) -> usize
     ensures { λ r. ⌜ r ≤ longest ⌝ }
 {
     let numbers = [i, j, start];
-    text::line_size(b"(move # # #)", &numbers)
+    text::line_size(&MOVE_FORM, &numbers)
 }
 
 // The bytes of the claim's line.
@@ -38,7 +41,7 @@ fn claim_size(span: u64, blue: u64, red: u64) -> usize
     ensures { λ r. ⌜ r ≤ longest ⌝ }
 {
     let numbers = [span, blue, red];
-    text::line_size(b"(claim # # #)", &numbers)
+    text::line_size(&CLAIM_FORM, &numbers)
 }
 
 // The bytes of all runs' lines.
@@ -67,15 +70,15 @@ fn moves_size<'a>(shape: Shape, job: &'a [u64; layout::JOB], plan: &'a [u64; lay
     ensures { λ r. ⌜ r ≤ longest * maxFiles ⌝ }
 {
     let mut n: usize = 0;
-    let mut i: usize = 0;
-    while i < shape.files {
-        let maker = layout::maker(job, i);
-        let reader = layout::reader(job, i);
+    let mut k: usize = 0;
+    while k < shape.files {
+        let maker = layout::maker(job, k);
+        let reader = layout::reader(job, k);
         if crosses(shape, plan, maker as usize, reader as usize) {
-            n += move_size(maker + 1, reader + 1, layout::move_start(plan, i));
-            i += 1;
+            n += move_size(maker + 1, reader + 1, layout::move_start(plan, k));
+            k += 1;
         } else {
-            i += 1;
+            k += 1;
         }
     }
     n

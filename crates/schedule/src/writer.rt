@@ -9,6 +9,9 @@ ghost use Rattle.text.specs.Wrote.{Wrote};
 ghost use Rattle.model.specs.Layout.{jobOf, planOf, instanceFrom, scheduleFrom, JobBounds};
 ghost use Rattle.model.specs.Claims.{asClaim};
 use crate::crossing::crosses;
+use crate::lines::CLAIM_FORM;
+use crate::lines::MOVE_FORM;
+use crate::lines::RUN_FORM;
 use model::claim::Claim;
 use model::layout;
 use model::layout::Shape;
@@ -19,7 +22,7 @@ fn write_run(out: &mut [u8], i: u64, processor: u64, start: u64) -> usize
     ensures { λ r. ⌜ Wrote (scheduleBytes (runLine i (record { processor = processor; start = start })) ++ lf) r (now (out .entry)) (now (out .exit)) ⌝ }
 {
     let numbers = [i, processor, start];
-    text::write_line(out, b"(run # # #)", &numbers)
+    text::write_line(out, &RUN_FORM, &numbers)
 }
 
 // Writes a move's line.
@@ -28,7 +31,7 @@ fn write_move(out: &mut [u8], i: u64, j: u64, start: u64) -> usize
     ensures { λ r. ⌜ Wrote (scheduleBytes (moveLine i j start) ++ lf) r (now (out .entry)) (now (out .exit)) ⌝ }
 {
     let numbers = [i, j, start];
-    text::write_line(out, b"(move # # #)", &numbers)
+    text::write_line(out, &MOVE_FORM, &numbers)
 }
 
 // Writes the claim's line.
@@ -37,7 +40,7 @@ fn write_claim(out: &mut [u8], claim: Claim) -> usize
     ensures { λ r. ⌜ Wrote (scheduleBytes (claimLine (asClaim claim)) ++ lf) r (now (out .entry)) (now (out .exit)) ⌝ }
 {
     let numbers = [claim.span, claim.blue_peak, claim.red_peak];
-    text::write_line(out, b"(claim # # #)", &numbers)
+    text::write_line(out, &CLAIM_FORM, &numbers)
 }
 
 // Writes the runs, a line for each task.
@@ -70,17 +73,17 @@ fn write_moves<'a>(
     ensures { λ r. ⌜ Wrote (moveLines (instanceFrom shape (jobOf (now (job .entry)))) (scheduleFrom shape (planOf (now (plan .entry)))) (shape .files)) r (now (out .entry)) (now (out .exit)) ⌝ }
 {
     let mut at: usize = 0;
-    let mut i: usize = 0;
-    while i < shape.files {
-        let maker = layout::maker(job, i);
-        let reader = layout::reader(job, i);
+    let mut k: usize = 0;
+    while k < shape.files {
+        let maker = layout::maker(job, k);
+        let reader = layout::reader(job, k);
         if crosses(shape, plan, maker as usize, reader as usize) {
-            let start = layout::move_start(plan, i);
+            let start = layout::move_start(plan, k);
             let n = write_move(&mut out[at..], maker + 1, reader + 1, start);
             at += n;
-            i += 1;
+            k += 1;
         } else {
-            i += 1;
+            k += 1;
         }
     }
     at

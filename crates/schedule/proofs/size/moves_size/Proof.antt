@@ -14,10 +14,10 @@ use Rattle.schedule.proofs.size.moves_size.Statement.{statement}
 use Rattle.schedule.proofs.size.moves_size.Tie as tie
 
 abbrev Inv-loop : tie.InvT-loop
-Inv-loop shape job plan n₀ i₀ n i = Counted (moveLines (instanceFrom shape (jobOf job)) (scheduleFrom shape (planOf plan))) (shape .files) n i
+Inv-loop shape job plan n₀ k₀ n k = Counted (moveLines (instanceFrom shape (jobOf job)) (scheduleFrom shape (planOf plan))) (shape .files) n k
 
 abbrev μ-loop : tie.MeasureT-loop
-μ-loop shape job plan n₀ i₀ n i = shape .files - i
+μ-loop shape job plan n₀ k₀ n k = shape .files - k
 
 loop-holds : tie.Need-loop-holds Inv-loop μ-loop
 loop-holds c = counted-none _ _ (moves-none _ _)
@@ -34,19 +34,19 @@ crosses-requires c κs =
     let l = m .before .before .before in
     let f = l .before .pre in
     let h = m .before .if1 .taken in
-    omega (arith, f .tasks, f .maker (l .loop .i) h, f .reader (l .loop .i) h, m .maker .ensures, c .reader .ensures)
+    omega (arith, f .tasks, f .maker (l .loop .k) h, f .reader (l .loop .k) h, m .maker .ensures, c .reader .ensures)
 
 add-move-size : tie.Need-add-move-size Inv-loop μ-loop
 add-move-size c =
     let m = c .before .before .before in
     let l = m .before .before .before in
-    omega (arith, l .before .pre .tasks, l .before .pre .maker (l .loop .i) (m .before .if1 .taken), m .maker .ensures)
+    omega (arith, l .before .pre .tasks, l .before .pre .maker (l .loop .k) (m .before .if1 .taken), m .maker .ensures)
 
 add-move-size-2 : tie.Need-add-move-size-2 Inv-loop μ-loop
 add-move-size-2 c =
     let m = c .before .before .before in
     let l = m .before .before .before in
-    omega (arith, l .before .pre .tasks, l .before .pre .reader (l .loop .i) (m .before .if1 .taken), c .before .before .reader .ensures)
+    omega (arith, l .before .pre .tasks, l .before .pre .reader (l .loop .k) (m .before .if1 .taken), c .before .before .reader .ensures)
 
 move-start-requires : tie.Need-move-start-requires Inv-loop μ-loop
 move-start-requires c κs = search needs
@@ -57,8 +57,8 @@ move-size-requires c κs = search needs
 add-n : tie.Need-add-n Inv-loop μ-loop
 add-n c = omega (arith, c .before .before .before .before .before .before .before .before .loop .inv .bound, c .before .before .before .before .before .before .before .before .loop .inv .passed, c .before .before .before .before .before .before .before .before .before .pre .files)
 
-add-i : tie.Need-add-i Inv-loop μ-loop
-add-i c = search needs
+add-k : tie.Need-add-k Inv-loop μ-loop
+add-k c = search needs
 
 loop-less : tie.Need-loop-less Inv-loop μ-loop
 loop-less c = search needs
@@ -75,8 +75,8 @@ loop-again c =
     let e = moved-in (s .pre) L h (m .maker .ensures) (x .before .reader .ensures) (x .crosses .ensures) in
     counted-next _ _ (moves-grow _ _) (l .loop .inv) h _ (move-piece (s .args .shape) J L h _ _ _ (m .maker .ensures) (x .before .reader .ensures) (c .before .move-start .ensures) (e ∙ c .before .before .if2 .taken)) _ (c .move-size .ensures .0) (c .move-size .ensures .1)
 
-add-i-2 : tie.Need-add-i-2 Inv-loop μ-loop
-add-i-2 c = search needs
+add-k-2 : tie.Need-add-k-2 Inv-loop μ-loop
+add-k-2 c = search needs
 
 loop-less-2 : tie.Need-loop-less-2 Inv-loop μ-loop
 loop-less-2 c = search needs
@@ -113,10 +113,10 @@ moves-size-spec =
     move-start-requires
     move-size-requires
     add-n
-    add-i
+    add-k
     loop-less
     loop-again
-    add-i-2
+    add-k-2
     loop-less-2
     loop-again-2
     returns)

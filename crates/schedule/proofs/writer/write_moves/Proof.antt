@@ -14,10 +14,10 @@ use Rattle.schedule.proofs.writer.write_moves.Statement.{statement}
 use Rattle.schedule.proofs.writer.write_moves.Tie as tie
 
 abbrev Inv-loop : tie.InvT-loop
-Inv-loop shape job plan out₀ at₀ i₀ out at i = Laid (moveLines (instanceFrom shape (jobOf job)) (scheduleFrom shape (planOf plan))) (shape .files) out₀ out at i
+Inv-loop shape job plan out₀ at₀ k₀ out at k = Laid (moveLines (instanceFrom shape (jobOf job)) (scheduleFrom shape (planOf plan))) (shape .files) out₀ out at k
 
 abbrev μ-loop : tie.MeasureT-loop
-μ-loop shape job plan out₀ at₀ i₀ out at i = shape .files - i
+μ-loop shape job plan out₀ at₀ k₀ out at k = shape .files - k
 
 loop-holds : tie.Need-loop-holds Inv-loop μ-loop
 loop-holds c = laid-none _ _ _ (moves-none _ _) (c .before .pre .1)
@@ -34,7 +34,7 @@ crosses-requires c κs =
     let l = m .before .before .before in
     let f = l .before .before .pre .0 in
     let h = m .before .if1 .taken in
-    omega (arith, f .tasks, f .maker (l .loop .i) h, f .reader (l .loop .i) h, m .maker .ensures, c .reader .ensures)
+    omega (arith, f .tasks, f .maker (l .loop .k) h, f .reader (l .loop .k) h, m .maker .ensures, c .reader .ensures)
 
 move-start-requires : tie.Need-move-start-requires Inv-loop μ-loop
 move-start-requires c κs = search needs
@@ -53,14 +53,14 @@ add-write-move c =
     let m = c .before .before .before .before .before in
     let l = m .before .before .before in
     let f = l .before .before .pre .0 in
-    omega (arith, f .tasks, f .maker (l .loop .i) (m .before .if1 .taken), m .maker .ensures)
+    omega (arith, f .tasks, f .maker (l .loop .k) (m .before .if1 .taken), m .maker .ensures)
 
 add-write-move-2 : tie.Need-add-write-move-2 Inv-loop μ-loop
 add-write-move-2 c =
     let m = c .before .before .before .before .before in
     let l = m .before .before .before in
     let f = l .before .before .pre .0 in
-    omega (arith, f .tasks, f .reader (l .loop .i) (m .before .if1 .taken), c .before .before .before .before .reader .ensures)
+    omega (arith, f .tasks, f .reader (l .loop .k) (m .before .if1 .taken), c .before .before .before .before .reader .ensures)
 
 write-move-requires : tie.Need-write-move-requires Inv-loop μ-loop
 write-move-requires c κs =
@@ -75,8 +75,8 @@ write-move-requires c κs =
     let t = c .before in
     laid-room _ _ (moves-grow _ _) (l .loop .inv) h _ (move-piece (s .args .shape) J L h _ _ _ (m .maker .ensures) (x .before .reader .ensures) (t .move-start .ensures) (e ∙ t .before .if2 .taken))
 
-add-i : tie.Need-add-i Inv-loop μ-loop
-add-i c = search needs
+add-k : tie.Need-add-k Inv-loop μ-loop
+add-k c = search needs
 
 loop-less : tie.Need-loop-less Inv-loop μ-loop
 loop-less c = search needs
@@ -100,8 +100,8 @@ add-at c =
     let r = loop-again c in
     omega (arith, laid-within _ _ (moves-grow _ _) r, laid-length _ _ (moves-grow _ _) r)
 
-add-i-2 : tie.Need-add-i-2 Inv-loop μ-loop
-add-i-2 c = search needs
+add-k-2 : tie.Need-add-k-2 Inv-loop μ-loop
+add-k-2 c = search needs
 
 loop-less-2 : tie.Need-loop-less-2 Inv-loop μ-loop
 loop-less-2 c = search needs
@@ -142,10 +142,10 @@ write-moves-spec =
     add-write-move-2
     write-move-requires
     add-at
-    add-i
+    add-k
     loop-less
     loop-again
-    add-i-2
+    add-k-2
     loop-less-2
     loop-again-2
     same-length
