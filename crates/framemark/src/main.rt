@@ -1,5 +1,7 @@
 // framemark SHEET PAPER: marks the timetable of the file PAPER on the board sheet of the file SHEET.
 use libc::STDOUT_FILENO;
+use printing::print_number;
+use printing::print_refusal;
 
 // Opens the file that an argument names; says why where that fails, and answers -1.
 fn open_argument(i: usize) -> i32 {
@@ -30,20 +32,14 @@ fn readable(fd: i32) -> bool {
 fn print_marks<'a>(sheet: &'a [u8], paper: &'a [u8]) {
     let v = frames::mark(sheet, paper);
     if v.number == 0 {
-        io::write_all(STDOUT_FILENO, b"(accepted ");
-        io::print_decimal(STDOUT_FILENO, v.span);
-        io::write_all(STDOUT_FILENO, b" ");
-        io::print_decimal(STDOUT_FILENO, v.blue_peak);
-        io::write_all(STDOUT_FILENO, b" ");
-        io::print_decimal(STDOUT_FILENO, v.red_peak);
+        io::write_all(STDOUT_FILENO, b"(accepted");
+        print_number(v.span);
+        print_number(v.blue_peak);
+        print_number(v.red_peak);
         io::write_all(STDOUT_FILENO, b")\n");
         return;
     }
-    io::write_all(STDOUT_FILENO, b"(refused ");
-    io::print_decimal(STDOUT_FILENO, v.number);
-    io::write_all(STDOUT_FILENO, b" ");
-    io::print_decimal(STDOUT_FILENO, v.place);
-    io::write_all(STDOUT_FILENO, b")\n");
+    print_refusal(v.number, v.place);
     if v.number < 15 {
         io::write_all(STDOUT_FILENO, frames::fault_line(sheet, paper));
         io::write_all(STDOUT_FILENO, b"\n");

@@ -1,10 +1,7 @@
 // frameplan [memheft|memminmin]: reads a board sheet from standard input and prints its timetable, by MemHEFT or the planner named.
-ghost use mathlib.Core.Path.{_≡_};
-ghost use Prim.Native.Nat.{_≤_};
-ghost use lib.ListN.{length};
-use frames::Answer;
 use libc::STDIN_FILENO;
 use libc::STDOUT_FILENO;
+use printing::print_answer;
 
 // The planner that the arguments name.
 enum Named {
@@ -29,22 +26,6 @@ fn planner_named() -> Named {
         return Named::MemMinMin;
     }
     Named::Neither
-}
-
-// Prints the timetable, or the refusal.
-fn print_answer(a: Answer, out: &[u8])
-    requires { ⌜ (a .number ≡ 0 → a .place ≤ length (now out)) ⌝ }
-{
-    if a.number == 0 {
-        let n = a.place as usize;
-        io::write_all(STDOUT_FILENO, &out[..n]);
-        return;
-    }
-    io::write_all(STDOUT_FILENO, b"(refused ");
-    io::print_decimal(STDOUT_FILENO, a.number);
-    io::write_all(STDOUT_FILENO, b" ");
-    io::print_decimal(STDOUT_FILENO, a.place);
-    io::write_all(STDOUT_FILENO, b")\n");
 }
 
 // The buffers are longer than any timetable, and longer than a text may be.

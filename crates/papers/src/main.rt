@@ -1,21 +1,17 @@
 // Timetables marked: examples e to m of document 01, papers that neither planner would make, and each refusal.
 use libc::STDOUT_FILENO;
-
-fn number(n: u64) {
-    io::write_all(STDOUT_FILENO, b" ");
-    io::print_decimal(STDOUT_FILENO, n);
-}
+use printing::print_number;
 
 // Prints what is shown, the verdict, and the line at fault.
 fn show<'a>(what: &'a [u8], sheet: &'a [u8], paper: &'a [u8]) {
     let v = frames::mark(sheet, paper);
     io::write_all(STDOUT_FILENO, what);
     io::write_all(STDOUT_FILENO, b":");
-    number(v.number);
-    number(v.place);
-    number(v.span);
-    number(v.blue_peak);
-    number(v.red_peak);
+    print_number(v.number);
+    print_number(v.place);
+    print_number(v.span);
+    print_number(v.blue_peak);
+    print_number(v.red_peak);
     io::write_all(STDOUT_FILENO, b" [");
     io::write_all(STDOUT_FILENO, frames::fault_line(sheet, paper));
     io::write_all(STDOUT_FILENO, b"]\n");
