@@ -11,12 +11,11 @@ use Rattle.rules.specs.Count.{listBelow}
 use Rattle.rules.specs.Limits.{maxTasks}
 use Rattle.rules.specs.Model.{Instance, Run, unplaced, processorCount, fileCount}
 use Rattle.rules.specs.Scheduling.{Partial, slotOf, chosenProcessor, moveWith, assign, empty, finishOn}
-use Rattle.rules.proofs.CountLaws.{getD-same}
+use Rattle.rules.proofs.CountLaws.{list-cong, list-set, list-same, getD-same}
 use Rattle.model.specs.declared.layout.Shape.{Shape}
 use Rattle.model.specs.Layout.{Job, planOf, runFrom, instanceFrom, scheduleFrom, partialFrom, colourBy, JobBounds}
 use Rattle.model.proofs.LayoutLaws.{time-by, file-count, task-count, task-at, processors-of}
 use Rattle.placing.specs.Slots.{countIn, slotIn, planLength, lastLength}
-use Rattle.placing.proofs.IndexLaws.{list-cong, list-set, list-same}
 use Rattle.placing.proofs.SlotLaws.{slot-at, slot-exists}
 
 -- ---- a run written

@@ -10,14 +10,13 @@ use Rattle.rules.specs.Count.{maxWhere}
 use Rattle.rules.specs.Limits.{processorCounts}
 use Rattle.rules.specs.Model.{Instance, Colour, sideOf}
 use Rattle.rules.specs.Scheduling.{Partial, slotOf, lastFinishOn, freeBy, latestFree, chosenProcessor, processorStart}
-use Rattle.rules.proofs.CountLaws.{max-cong, getD-listBelow}
+use Rattle.rules.proofs.CountLaws.{max-cong, first-passed, getD-listBelow}
 use Rattle.rules.proofs.StartLaws.{free-processor, processorLaw}
 use Rattle.model.specs.declared.layout.Shape.{Shape}
 use Rattle.model.specs.Layout.{Job, Plan, instanceFrom, partialFrom, colourBy, JobBounds}
 use Rattle.model.proofs.LayoutLaws.{processors-of}
 use Rattle.model.proofs.StepLaws.{max-turn}
 use Rattle.placing.specs.Slots.{Processors, countIn, slotIn, lastIn, lastLength}
-use Rattle.placing.proofs.IndexLaws.{first-is}
 
 pub processors-in : {b : Shape} {J : Job} → JobBounds b J → Processors b
 processors-in f = record { blue = f .blueProcessors; red = f .redProcessors }
@@ -93,8 +92,8 @@ module _ (b : Shape) (xs : List ℕ) (x : Bool) (s : ℕ) where
     unfolding chosenProcessor
     chosen-first p l before here =
         let n : sideOf I c .processors ≡ countIn b x = processors-of b J x in
-        first-is (sideOf I c .processors) (latestFree I Q c s) p (omega arith)
-        (λ q h. suits-at q (omega arith) ∙ before q h) (λ h. suits-at p (omega arith) ∙ here (omega arith))
+        first-passed (sideOf I c .processors) (latestFree I Q c s) p (omega arith)
+        (λ h. suits-at p (omega arith) ∙ here (omega arith)) (λ q h. suits-at q (omega arith) ∙ before q h)
 
     -- it exists, if the start is not before start 1
     pub chosen-exists : Processors b → processorStart I Q c ≤ s → {p : ℕ} → p ≡ chosenProcessor I Q c s → p < countIn b x

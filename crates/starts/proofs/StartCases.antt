@@ -12,13 +12,12 @@ use Rattle.rules.specs.Limits.{processorCounts}
 use Rattle.rules.specs.Model.{Instance, Schedule}
 use Rattle.rules.specs.Promises.{In}
 use Rattle.rules.specs.Scheduling.{Partial, processorStart, inputStart, crossingSize, crossingTime, outputSize, freeFrom, latest, delayed, earliestStart}
-use Rattle.rules.proofs.CountLaws.{getD-listBelow}
+use Rattle.rules.proofs.CountLaws.{min-cong, getD-listBelow}
 use Rattle.model.specs.declared.layout.Shape.{Shape}
 use Rattle.model.specs.Layout.{Job, Plan, instanceFrom, scheduleFrom, colourBy, partialFrom}
 use Rattle.starts.specs.declared.memory.Free.{Free}
 use Rattle.starts.specs.declared.memory.Free.the-variants.{Nowhere, From}
 use Rattle.starts.specs.FreeMemory.{asOption, tickOf}
-use Rattle.starts.proofs.BelowLaws.{min-cong}
 
 -- ---- the greatest of the four
 
