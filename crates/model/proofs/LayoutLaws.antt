@@ -1,22 +1,27 @@
 -- What the instance and the schedule made of the arrays are, by index, and the bounds of a well-formed instance's arrays.
 use Prim.Native.Nat.{ℕ, _+_, _≤_, _<_}
 use mathlib.Core.Bool.{Bool, true, false, cond, not}
-use mathlib.Core.Path.{_≡_, refl, ap}
+use mathlib.Core.List.{List}
+use mathlib.Core.Path.{_≡_, refl, sym, ap, _∙_}
 use native.Mathlib.Omega.{arith}
-use lib.Dec.{ltb, leb}
+use lib.Dec.{ltb, leb, eqb}
+use lib.ListN.{getD}
 use Rattle.rules.specs.Model.{blue, red, sameColour, Instance, Schedule, Task, fileAt, fileCount, taskAt, taskCount, limitOf, sideOf, timeOn, runAt, moveAt, sizeAt, moveTimeAt, finishAt, moved}
 use Rattle.rules.specs.Residency.{never, closedHold, openHold, holdBy, holdOf}
+use Rattle.rules.specs.Scheduling.{reads, makes, finishOn}
 use Rattle.rules.specs.Limits.{processorCounts, runTimes}
 use Rattle.rules.specs.Promises.{In, WellFormed}
 use Rattle.rules.proofs.CountLaws.{length-listBelow, getD-listBelow}
 use Rattle.model.specs.declared.layout.Shape.{Shape}
-use Rattle.model.specs.Layout.{Job, Plan, taskFrom, fileFrom, runFrom, instanceFrom, scheduleFrom, colourBy, JobBounds, Bounds}
+use Rattle.model.specs.Layout.{Job, Plan, taskFrom, fileFrom, runFrom, instanceFrom, scheduleFrom, partialFrom, colourBy, JobBounds, Bounds}
 
 pub time-by : (x : Bool) (a : Task) → timeOn (colourBy x) a ≡ cond x (a .onBlue) (a .onRed)
 time-by true a = refl
 time-by false a = refl
 
 module _ (b : Shape) (J : Job) where
+  -- ---- the instance
+
   pub file-count : fileCount (instanceFrom b J) ≡ b .files
   unfolding instanceFrom
   file-count = length-listBelow (b .files) (fileFrom J)
@@ -55,6 +60,21 @@ module _ (b : Shape) (J : Job) where
   pub reader-at : (k : ℕ) → k < b .files → fileAt (instanceFrom b J) k .reader ≡ J .reader k
   reader-at k h = ap (λ f. f .reader) (file-at k h)
 
+  -- whether a file is made, or read, by task i, from what the accessors read
+  module _ {k : ℕ} (h : k < b .files) (i : ℕ) where
+    pub makes-at : {j : ℕ} → j ≡ J .maker k → eqb j i ≡ makes (instanceFrom b J) i k
+    makes-at e = ap (λ j. eqb j i) (e ∙ sym (maker-at k h))
+
+    pub reads-at : {j : ℕ} → j ≡ J .reader k → eqb j i ≡ reads (instanceFrom b J) i k
+    reads-at e = ap (λ j. eqb j i) (e ∙ sym (reader-at k h))
+
+  -- the finish of a run that starts at s
+  pub finish-on-at : {i : ℕ} → i < b .tasks → (x : Bool) (s : ℕ) {t : ℕ} → t ≡ cond x (J .onBlue i) (J .onRed i)
+      → s + t ≡ finishOn (instanceFrom b J) i (colourBy x) s
+  finish-on-at {i} h x s e = rw (task-at i h, time-by, e)
+
+-- ---- the schedule
+
 module _ (b : Shape) (L : Plan) where
   pub run-at : (i : ℕ) → i < b .tasks → runAt (scheduleFrom b L) i ≡ runFrom L i
   unfolding scheduleFrom
@@ -63,6 +83,10 @@ module _ (b : Shape) (L : Plan) where
   pub move-at : (k : ℕ) → k < b .files → moveAt (scheduleFrom b L) k ≡ L .moveStart k
   unfolding scheduleFrom
   move-at k h = getD-listBelow (b .files) (λ k. L .moveStart k) k 0 h
+
+  -- the last finish of each processor
+  pub last-finish-at : (last : List ℕ) (p : ℕ) → p < b .board .blue .processors + b .board .red .processors → getD (partialFrom b L last .lastFinish) p 0 ≡ getD last p 0
+  last-finish-at last p h = getD-listBelow (b .board .blue .processors + b .board .red .processors) (λ p. getD last p 0) p 0 h
 
 module _ {b : Shape} {J : Job} {L : Plan} (f : Bounds b J L) where
   abbrev I : Instance
@@ -137,8 +161,7 @@ module _ (b : Shape) (J : Job) (w : WellFormed (instanceFrom b J)) where
   job-bounds = record {
     tasks = omega (arith, task-count b J, w .tasks .most);
     files = omega (arith, file-count b J, w .files);
-    blueProcessors = blue-in;
-    redProcessors = red-in;
+    processors = record { blue = blue-in; red = red-in };
     blueLimit = omega (arith, limit-of b J true, w .limits blue .most);
     redLimit = omega (arith, limit-of b J false, w .limits red .most);
     onBlue = blue-time;
