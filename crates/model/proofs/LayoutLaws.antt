@@ -13,7 +13,7 @@ use Rattle.rules.specs.Limits.{processorCounts, runTimes}
 use Rattle.rules.specs.Promises.{In, WellFormed}
 use Rattle.rules.proofs.CountLaws.{length-listBelow, getD-listBelow}
 use Rattle.model.specs.declared.layout.Shape.{Shape}
-use Rattle.model.specs.Layout.{Job, Plan, taskFrom, fileFrom, runFrom, instanceFrom, scheduleFrom, partialFrom, colourBy, JobBounds, Bounds}
+use Rattle.model.specs.Layout.{Job, Plan, taskFrom, fileFrom, runFrom, instanceFrom, scheduleFrom, partialFrom, colourBy, countIn, JobBounds, Bounds}
 
 pub time-by : (x : Bool) (a : Task) → timeOn (colourBy x) a ≡ cond x (a .onBlue) (a .onRed)
 time-by true a = refl
@@ -43,7 +43,7 @@ module _ (b : Shape) (J : Job) where
   limit-of true = refl
   limit-of false = refl
 
-  pub processors-of : (c : Bool) → sideOf (instanceFrom b J) (colourBy c) .processors ≡ cond c (b .board .blue .processors) (b .board .red .processors)
+  pub processors-of : (c : Bool) → sideOf (instanceFrom b J) (colourBy c) .processors ≡ countIn b c
   unfolding instanceFrom
   processors-of true = refl
   processors-of false = refl
@@ -75,6 +75,10 @@ module _ (b : Shape) (J : Job) where
 
 -- ---- the schedule
 
+-- whether task i runs on blue
+abbrev pub isBlue : Shape → Plan → ℕ → Bool
+isBlue b L i = leb (L .processor i) (b .board .blue .processors)
+
 module _ (b : Shape) (L : Plan) where
   pub run-at : (i : ℕ) → i < b .tasks → runAt (scheduleFrom b L) i ≡ runFrom L i
   unfolding scheduleFrom
@@ -95,10 +99,7 @@ module _ {b : Shape} {J : Job} {L : Plan} (f : Bounds b J L) where
   abbrev P : Schedule
   P = scheduleFrom b L
 
-  abbrev pub isBlue : ℕ → Bool
-  isBlue i = leb (L .processor i) (b .board .blue .processors)
-
-  pub finish-at : {i : ℕ} → i < b .tasks → {s time : ℕ} {x : Bool} → s ≡ L .start i → x ≡ isBlue i → time ≡ cond x (J .onBlue i) (J .onRed i)
+  pub finish-at : {i : ℕ} → i < b .tasks → {s time : ℕ} {x : Bool} → s ≡ L .start i → x ≡ isBlue b L i → time ≡ cond x (J .onBlue i) (J .onRed i)
       → s + time ≡ finishAt I P i
   finish-at {i} h p q e = rw (run-at b L i h, task-at b J i h, processors-of b J true, time-by, p, e, q)
 
@@ -109,10 +110,10 @@ module _ {b : Shape} {J : Job} {L : Plan} (f : Bounds b J L) where
     abbrev d : ℕ
     d = J .reader k
 
-    pub moved-at : (s : Bool) → s ≡ sameColour (colourBy (isBlue m)) (colourBy (isBlue d)) → not s ≡ moved I P k
+    pub moved-at : (s : Bool) → s ≡ sameColour (colourBy (isBlue b L m)) (colourBy (isBlue b L d)) → not s ≡ moved I P k
     moved-at s e = rw (e, file-at b J k h, run-at b L m (f .job .maker k h), run-at b L d (f .job .reader k h), processors-of b J true)
 
-    hold-at : (c s e : Bool) (released : ℕ) → s ≡ sameColour (colourBy (isBlue m)) (colourBy (isBlue d)) → e ≡ sameColour (colourBy (isBlue m)) (colourBy c)
+    hold-at : (c s e : Bool) (released : ℕ) → s ≡ sameColour (colourBy (isBlue b L m)) (colourBy (isBlue b L d)) → e ≡ sameColour (colourBy (isBlue b L m)) (colourBy c)
         → released ≡ finishAt I P d →
         cond (ltb 0 (L .processor m)) (cond (ltb 0 (L .processor d))
         (closedHold (not s) e (L .start m) (L .moveStart k) (L .moveStart k + J .moveTime k) released)
@@ -123,7 +124,7 @@ module _ {b : Shape} {J : Job} {L : Plan} (f : Bounds b J L) where
 
     -- the hold, from what the accessors read
     module _ {i j p q begun departs takes released : ℕ} {from to s e : Bool} (c : Bool)
-        (maker : i ≡ m) (reader : j ≡ d) (from-is : from ≡ isBlue i) (to-is : to ≡ isBlue j)
+        (maker : i ≡ m) (reader : j ≡ d) (from-is : from ≡ isBlue b L i) (to-is : to ≡ isBlue b L j)
         (moves : s ≡ sameColour (colourBy from) (colourBy to)) (here : e ≡ sameColour (colourBy from) (colourBy c))
         (by : p ≡ L .processor i) (for : q ≡ L .processor j) (start : begun ≡ L .start i)
         (leaves : departs ≡ L .moveStart k) (time : takes ≡ J .moveTime k) (ends : released ≡ finishAt I P j) where

@@ -94,6 +94,10 @@ partialFrom b L last = record {
 abbrev pub colourBy : Bool → Colour
 colourBy flag = cond flag blue red
 
+-- the processors of the colour
+abbrev pub countIn : Shape → Bool → ℕ
+countIn b flag = cond flag (b .board .blue .processors) (b .board .red .processors)
+
 -- ---- what the code asks of the arrays: every number in its range
 
 -- each of the first n numbers is at most m

@@ -13,9 +13,9 @@ use Rattle.rules.specs.Model.{Instance, Run, unplaced, processorCount, fileCoun
 use Rattle.rules.specs.Scheduling.{Partial, slotOf, chosenProcessor, moveWith, assign, empty, finishOn}
 use Rattle.rules.proofs.CountLaws.{list-cong, list-set, list-same, getD-same}
 use Rattle.model.specs.declared.layout.Shape.{Shape}
-use Rattle.model.specs.Layout.{Job, planOf, runFrom, instanceFrom, scheduleFrom, partialFrom, colourBy, JobBounds, planLength, lastLength}
+use Rattle.model.specs.Layout.{Job, planOf, runFrom, instanceFrom, scheduleFrom, partialFrom, colourBy, countIn, JobBounds, planLength, lastLength}
 use Rattle.model.proofs.LayoutLaws.{file-count, task-count, finish-on-at, processors-of}
-use Rattle.placing.specs.Slots.{countIn, slotIn}
+use Rattle.placing.specs.Slots.{slotIn}
 use Rattle.placing.proofs.SlotLaws.{slot-at, slot-exists}
 
 -- ---- a run written

@@ -12,10 +12,10 @@ use Rattle.rules.specs.Scheduling.{Partial, slotOf, lastFinishOn, freeBy, lates
 use Rattle.rules.proofs.CountLaws.{max-cong, first-passed}
 use Rattle.rules.proofs.StartLaws.{free-processor, processorLaw}
 use Rattle.model.specs.declared.layout.Shape.{Shape}
-use Rattle.model.specs.Layout.{Job, Plan, instanceFrom, partialFrom, colourBy, Processors, lastLength}
+use Rattle.model.specs.Layout.{Job, Plan, instanceFrom, partialFrom, colourBy, countIn, Processors, lastLength}
 use Rattle.model.proofs.LayoutLaws.{processors-of, last-finish-at}
 use Rattle.model.proofs.StepLaws.{max-turn}
-use Rattle.placing.specs.Slots.{countIn, slotIn, lastIn}
+use Rattle.placing.specs.Slots.{slotIn, lastIn}
 
 pub slot-exists : (b : Shape) (x : Bool) (p : ℕ) → p < countIn b x → slotIn b x p < b .board .blue .processors + b .board .red .processors
 slot-exists b true p h = omega arith

@@ -5,10 +5,6 @@ use mathlib.Core.List.{List}
 use lib.ListN.{getD}
 use Rattle.model.specs.declared.layout.Shape.{Shape}
 
--- the processors of the colour, blue being `true`
-abbrev pub countIn : Shape → Bool → ℕ
-countIn b x = cond x (b .board .blue .processors) (b .board .red .processors)
-
 -- where the colour's processor p stands, blue ones first
 abbrev pub slotIn : Shape → Bool → ℕ → ℕ
 slotIn b x p = cond x p (b .board .blue .processors + p)

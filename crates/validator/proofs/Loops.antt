@@ -69,7 +69,7 @@ module _ {b : Shape} {J : Job} {L : Plan} (f : Bounds b J L) where
 
     -- whether a file is early, from what the accessors read
     module _ {i j made departs takes starts : ℕ} {from to s : Bool} (maker : i ≡ m) (reader : j ≡ d)
-        (from-is : from ≡ isBlue f i) (to-is : to ≡ isBlue f j) (moves : s ≡ sameColour (colourBy from) (colourBy to))
+        (from-is : from ≡ isBlue b L i) (to-is : to ≡ isBlue b L j) (moves : s ≡ sameColour (colourBy from) (colourBy to))
         (leaves : departs ≡ L .moveStart k) (time : takes ≡ J .moveTime k) (made-is : made ≡ finishAt I P i) (starts-is : starts ≡ L .start j) where
       pub early-from : {r : Bool} → r ≡ cond (not s) (ltb departs made || ltb starts (departs + takes)) (ltb starts made) → r ≡ early I P k
       early-from e = e ∙ early-is I P k
