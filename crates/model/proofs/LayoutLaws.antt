@@ -1,22 +1,27 @@
 -- What the instance and the schedule made of the arrays are, by index, and the bounds of a well-formed instance's arrays.
 use Prim.Native.Nat.{ℕ, _+_, _≤_, _<_}
 use mathlib.Core.Bool.{Bool, true, false, cond, not}
-use mathlib.Core.Path.{_≡_, refl, ap}
+use mathlib.Core.List.{List}
+use mathlib.Core.Path.{_≡_, refl, sym, ap, _∙_}
 use native.Mathlib.Omega.{arith}
-use lib.Dec.{ltb, leb}
+use lib.Dec.{ltb, leb, eqb}
+use lib.ListN.{getD}
 use Rattle.rules.specs.Model.{blue, red, sameColour, Instance, Schedule, Task, fileAt, fileCount, taskAt, taskCount, limitOf, sideOf, timeOn, runAt, moveAt, sizeAt, moveTimeAt, finishAt, moved}
 use Rattle.rules.specs.Residency.{never, closedHold, openHold, holdBy, holdOf}
+use Rattle.rules.specs.Scheduling.{reads, makes, finishOn}
 use Rattle.rules.specs.Limits.{processorCounts, runTimes}
 use Rattle.rules.specs.Promises.{In, WellFormed}
 use Rattle.rules.proofs.CountLaws.{length-listBelow, getD-listBelow}
 use Rattle.model.specs.declared.layout.Shape.{Shape}
-use Rattle.model.specs.Layout.{Job, Plan, taskFrom, fileFrom, runFrom, instanceFrom, scheduleFrom, colourBy, JobBounds, Bounds}
+use Rattle.model.specs.Layout.{Job, Plan, taskFrom, fileFrom, runFrom, instanceFrom, scheduleFrom, partialFrom, colourBy, countIn, JobBounds, Bounds}
 
 pub time-by : (x : Bool) (a : Task) → timeOn (colourBy x) a ≡ cond x (a .onBlue) (a .onRed)
 time-by true a = refl
 time-by false a = refl
 
 module _ (b : Shape) (J : Job) where
+  -- ---- the instance
+
   pub file-count : fileCount (instanceFrom b J) ≡ b .files
   unfolding instanceFrom
   file-count = length-listBelow (b .files) (fileFrom J)
@@ -38,7 +43,7 @@ module _ (b : Shape) (J : Job) where
   limit-of true = refl
   limit-of false = refl
 
-  pub processors-of : (c : Bool) → sideOf (instanceFrom b J) (colourBy c) .processors ≡ cond c (b .board .blue .processors) (b .board .red .processors)
+  pub processors-of : (c : Bool) → sideOf (instanceFrom b J) (colourBy c) .processors ≡ countIn b c
   unfolding instanceFrom
   processors-of true = refl
   processors-of false = refl
@@ -55,6 +60,25 @@ module _ (b : Shape) (J : Job) where
   pub reader-at : (k : ℕ) → k < b .files → fileAt (instanceFrom b J) k .reader ≡ J .reader k
   reader-at k h = ap (λ f. f .reader) (file-at k h)
 
+  -- whether a file is made, or read, by task i, from what the accessors read
+  module _ {k : ℕ} (h : k < b .files) (i : ℕ) where
+    pub makes-at : {j : ℕ} → j ≡ J .maker k → eqb j i ≡ makes (instanceFrom b J) i k
+    makes-at e = ap (λ j. eqb j i) (e ∙ sym (maker-at k h))
+
+    pub reads-at : {j : ℕ} → j ≡ J .reader k → eqb j i ≡ reads (instanceFrom b J) i k
+    reads-at e = ap (λ j. eqb j i) (e ∙ sym (reader-at k h))
+
+  -- the finish of a run that starts at s
+  pub finish-on-at : {i : ℕ} → i < b .tasks → (x : Bool) (s : ℕ) {t : ℕ} → t ≡ cond x (J .onBlue i) (J .onRed i)
+      → s + t ≡ finishOn (instanceFrom b J) i (colourBy x) s
+  finish-on-at {i} h x s e = rw (task-at i h, time-by, e)
+
+-- ---- the schedule
+
+-- whether task i runs on blue
+abbrev pub isBlue : Shape → Plan → ℕ → Bool
+isBlue b L i = leb (L .processor i) (b .board .blue .processors)
+
 module _ (b : Shape) (L : Plan) where
   pub run-at : (i : ℕ) → i < b .tasks → runAt (scheduleFrom b L) i ≡ runFrom L i
   unfolding scheduleFrom
@@ -64,6 +88,10 @@ module _ (b : Shape) (L : Plan) where
   unfolding scheduleFrom
   move-at k h = getD-listBelow (b .files) (λ k. L .moveStart k) k 0 h
 
+  -- the last finish of each processor
+  pub last-finish-at : (last : List ℕ) (p : ℕ) → p < b .board .blue .processors + b .board .red .processors → getD (partialFrom b L last .lastFinish) p 0 ≡ getD last p 0
+  last-finish-at last p h = getD-listBelow (b .board .blue .processors + b .board .red .processors) (λ p. getD last p 0) p 0 h
+
 module _ {b : Shape} {J : Job} {L : Plan} (f : Bounds b J L) where
   abbrev I : Instance
   I = instanceFrom b J
@@ -71,10 +99,7 @@ module _ {b : Shape} {J : Job} {L : Plan} (f : Bounds b J L) where
   abbrev P : Schedule
   P = scheduleFrom b L
 
-  abbrev pub isBlue : ℕ → Bool
-  isBlue i = leb (L .processor i) (b .board .blue .processors)
-
-  pub finish-at : {i : ℕ} → i < b .tasks → {s time : ℕ} {x : Bool} → s ≡ L .start i → x ≡ isBlue i → time ≡ cond x (J .onBlue i) (J .onRed i)
+  pub finish-at : {i : ℕ} → i < b .tasks → {s time : ℕ} {x : Bool} → s ≡ L .start i → x ≡ isBlue b L i → time ≡ cond x (J .onBlue i) (J .onRed i)
       → s + time ≡ finishAt I P i
   finish-at {i} h p q e = rw (run-at b L i h, task-at b J i h, processors-of b J true, time-by, p, e, q)
 
@@ -85,10 +110,10 @@ module _ {b : Shape} {J : Job} {L : Plan} (f : Bounds b J L) where
     abbrev d : ℕ
     d = J .reader k
 
-    pub moved-at : (s : Bool) → s ≡ sameColour (colourBy (isBlue m)) (colourBy (isBlue d)) → not s ≡ moved I P k
+    pub moved-at : (s : Bool) → s ≡ sameColour (colourBy (isBlue b L m)) (colourBy (isBlue b L d)) → not s ≡ moved I P k
     moved-at s e = rw (e, file-at b J k h, run-at b L m (f .job .maker k h), run-at b L d (f .job .reader k h), processors-of b J true)
 
-    hold-at : (c s e : Bool) (released : ℕ) → s ≡ sameColour (colourBy (isBlue m)) (colourBy (isBlue d)) → e ≡ sameColour (colourBy (isBlue m)) (colourBy c)
+    hold-at : (c s e : Bool) (released : ℕ) → s ≡ sameColour (colourBy (isBlue b L m)) (colourBy (isBlue b L d)) → e ≡ sameColour (colourBy (isBlue b L m)) (colourBy c)
         → released ≡ finishAt I P d →
         cond (ltb 0 (L .processor m)) (cond (ltb 0 (L .processor d))
         (closedHold (not s) e (L .start m) (L .moveStart k) (L .moveStart k + J .moveTime k) released)
@@ -99,7 +124,7 @@ module _ {b : Shape} {J : Job} {L : Plan} (f : Bounds b J L) where
 
     -- the hold, from what the accessors read
     module _ {i j p q begun departs takes released : ℕ} {from to s e : Bool} (c : Bool)
-        (maker : i ≡ m) (reader : j ≡ d) (from-is : from ≡ isBlue i) (to-is : to ≡ isBlue j)
+        (maker : i ≡ m) (reader : j ≡ d) (from-is : from ≡ isBlue b L i) (to-is : to ≡ isBlue b L j)
         (moves : s ≡ sameColour (colourBy from) (colourBy to)) (here : e ≡ sameColour (colourBy from) (colourBy c))
         (by : p ≡ L .processor i) (for : q ≡ L .processor j) (start : begun ≡ L .start i)
         (leaves : departs ≡ L .moveStart k) (time : takes ≡ J .moveTime k) (ends : released ≡ finishAt I P j) where
@@ -137,8 +162,7 @@ module _ (b : Shape) (J : Job) (w : WellFormed (instanceFrom b J)) where
   job-bounds = record {
     tasks = omega (arith, task-count b J, w .tasks .most);
     files = omega (arith, file-count b J, w .files);
-    blueProcessors = blue-in;
-    redProcessors = red-in;
+    processors = record { blue = blue-in; red = red-in };
     blueLimit = omega (arith, limit-of b J true, w .limits blue .most);
     redLimit = omega (arith, limit-of b J false, w .limits red .most);
     onBlue = blue-time;

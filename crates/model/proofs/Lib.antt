@@ -1,6 +1,6 @@
 -- The laws that the proofs of this crate, and of those above it, cite.
 
--- one turn of a loop that sums, or takes the greatest
+-- one turn of a loop that sums, takes the greatest, or looks for an index
 pub mod StepLaws
 -- the cases of the small functions on holds and colours
 pub mod HoldCases

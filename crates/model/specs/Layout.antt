@@ -45,6 +45,14 @@ planOf xs = record {
   moveStart = λ k. getD xs (2 * maxTasks + k) 0;
 }
 
+-- the length of a plan array
+abbrev pub planLength : ℕ
+planLength = 2 * maxTasks + maxFiles
+
+-- the length of an array of last finishes
+abbrev pub lastLength : ℕ
+lastLength = 2 * processorCounts .most
+
 -- ---- the rules' instance and schedule
 
 abbrev pub taskFrom : Job → ℕ → Task
@@ -86,17 +94,25 @@ partialFrom b L last = record {
 abbrev pub colourBy : Bool → Colour
 colourBy flag = cond flag blue red
 
+-- the processors of the colour
+abbrev pub countIn : Shape → Bool → ℕ
+countIn b flag = cond flag (b .board .blue .processors) (b .board .red .processors)
+
 -- ---- what the code asks of the arrays: every number in its range
 
 -- each of the first n numbers is at most m
 abbrev pub Bounded : ℕ → ℕ → (ℕ → ℕ) → Type 0
 Bounded m n f = (k : ℕ) → k < n → f k ≤ m
 
+-- the processors of each colour are as many as a board can have
+pub record Processors (b : Shape) : Type 0 where
+  pub blue : In processorCounts (b .board .blue .processors)
+  pub red : In processorCounts (b .board .red .processors)
+
 pub record JobBounds (b : Shape) (J : Job) : Type 0 where
   pub tasks : b .tasks ≤ maxTasks
   pub files : b .files ≤ maxFiles
-  pub blueProcessors : In processorCounts (b .board .blue .processors)
-  pub redProcessors : In processorCounts (b .board .red .processors)
+  pub processors : Processors b
   pub blueLimit : b .board .blue .limit ≤ memoryLimits .most
   pub redLimit : b .board .red .limit ≤ memoryLimits .most
   pub onBlue : Bounded (runTimes .most) (b .tasks) (J .onBlue)
@@ -117,6 +133,14 @@ pub record Bounds (b : Shape) (J : Job) (L : Plan) : Type 0 where
 -- no finish and no end of a move is later
 abbrev pub lastTick : ℕ
 lastTick = ticks .most + runTimes .most + moveTimes .most
+
+-- no earliest start is later
+abbrev pub lastStart : ℕ
+lastStart = lastTick + moveTimes .most
+
+-- no finish of a run that starts at an earliest start is later
+abbrev pub latestFinish : ℕ
+latestFinish = lastStart + runTimes .most
 
 -- no total of file sizes is greater
 abbrev pub mostHeld : ℕ

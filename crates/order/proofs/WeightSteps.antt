@@ -19,7 +19,7 @@ use Rattle.rules.proofs.CountLaws.{where-under, getD-same}
 use Rattle.rules.proofs.WeightLaws.{weightLaw}
 use Rattle.model.specs.declared.layout.Shape.{Shape}
 use Rattle.model.specs.Layout.{Job, instanceFrom}
-use Rattle.model.proofs.LayoutLaws.{file-count, task-count, task-at, maker-at, reader-at, move-time-at}
+use Rattle.model.proofs.LayoutLaws.{file-count, task-count, task-at, reader-at, move-time-at, makes-at}
 use Rattle.model.proofs.StepLaws.{max-next}
 use Rattle.order.specs.Weights.{mostStep, mostWeight, WeightsFrom}
 
@@ -66,8 +66,7 @@ module _ (b : Shape) (J : Job) (W : WellFormed (instanceFrom b J)) where
         → maxWhere (k + 1) (makes I i) (pathAt I) ≡ max (maxWhere k (makes I i) (pathAt I)) r
     reader-turn {k} h {m} {d} {t} {r} p q z e =
         let a : cond (makes I i k) (pathAt I k) 0 ≡ cond (makes I i k) (t + getD ws d 0) 0 = cond-same (makes I i k) (pathAt I k) (t + getD ws d 0) (path-known h q z) in
-        let c : fileAt I k .maker ≡ m = maker-at b J k h ∙ sym p in
-        let s : cond (makes I i k) (t + getD ws d 0) 0 ≡ r = ap (λ x. cond (eqb x i) (t + getD ws d 0) 0) c ∙ sym e in
+        let s : cond (makes I i k) (t + getD ws d 0) 0 ≡ r = ap (λ x. cond x (t + getD ws d 0) 0) (sym (makes-at b J h i p)) ∙ sym e in
         omega (arith, max-next (λ k. cond (makes I i k) (pathAt I k) 0) k)
 
     pub reader-total : {n : ℕ} → n ≡ b .files → maxWhere n (makes I i) (pathAt I) ≡ maxWhere (fileCount I) (makes I i) (pathAt I)

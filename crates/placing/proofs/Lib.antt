@@ -1,7 +1,5 @@
 -- The laws that the proofs of this crate, and of those above it, cite.
 
--- lists by index: one value changed, one value throughout
-pub mod IndexLaws
 -- the processors of a colour, and the one chosen
 pub mod SlotLaws
 -- the moves of the files that a task reads

@@ -11,11 +11,10 @@ use Rattle.rules.specs.Count.{listBelow}
 use Rattle.rules.specs.Limits.{maxTasks}
 use Rattle.rules.specs.Model.{Instance, Schedule, Colour, runAt, moveAt, fileAt, fileCount}
 use Rattle.rules.specs.Scheduling.{crossing, moveWith}
+use Rattle.rules.proofs.CountLaws.{list-cong}
 use Rattle.model.specs.declared.layout.Shape.{Shape}
-use Rattle.model.specs.Layout.{Job, Plan, planOf, instanceFrom, scheduleFrom, JobBounds}
+use Rattle.model.specs.Layout.{Job, Plan, planOf, instanceFrom, scheduleFrom, JobBounds, planLength}
 use Rattle.model.proofs.LayoutLaws.{file-count, maker-at, move-time-at, run-at, move-at}
-use Rattle.placing.specs.Slots.{planLength}
-use Rattle.placing.proofs.IndexLaws.{list-cong}
 
 module _ {b : Shape} {J : Job} (f : JobBounds b J) (L : Plan) {k : ℕ} (h : k < b .files) where
   abbrev I : Instance

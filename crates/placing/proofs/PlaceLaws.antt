@@ -11,12 +11,11 @@ use Rattle.rules.specs.Count.{listBelow}
 use Rattle.rules.specs.Limits.{maxTasks}
 use Rattle.rules.specs.Model.{Instance, Run, unplaced, processorCount, fileCount}
 use Rattle.rules.specs.Scheduling.{Partial, slotOf, chosenProcessor, moveWith, assign, empty, finishOn}
-use Rattle.rules.proofs.CountLaws.{getD-same}
+use Rattle.rules.proofs.CountLaws.{list-cong, list-set, list-same, getD-same}
 use Rattle.model.specs.declared.layout.Shape.{Shape}
-use Rattle.model.specs.Layout.{Job, planOf, runFrom, instanceFrom, scheduleFrom, partialFrom, colourBy, JobBounds}
-use Rattle.model.proofs.LayoutLaws.{time-by, file-count, task-count, task-at, processors-of}
-use Rattle.placing.specs.Slots.{countIn, slotIn, planLength, lastLength}
-use Rattle.placing.proofs.IndexLaws.{list-cong, list-set, list-same}
+use Rattle.model.specs.Layout.{Job, planOf, runFrom, instanceFrom, scheduleFrom, partialFrom, colourBy, countIn, JobBounds, planLength, lastLength}
+use Rattle.model.proofs.LayoutLaws.{file-count, task-count, finish-on-at, processors-of}
+use Rattle.placing.specs.Slots.{slotIn}
 use Rattle.placing.proofs.SlotLaws.{slot-at, slot-exists}
 
 -- ---- a run written
@@ -75,7 +74,7 @@ module _ {b : Shape} {J : Job} (f : JobBounds b J) (xs last : List ℕ) (x : Boo
       at = slot-at b J x _ ∙ rw (here, chosen)
 
       finish : s + time ≡ finishOn I i (colourBy x) s
-      finish = rw (task-at b J i inside, time-by, takes)
+      finish = finish-on-at b J inside x s takes
 
       runs-placed : listBelow (b .tasks) (runFrom (planOf (withRun ys i (slot + 1) s))) ≡ set (listBelow (b .tasks) (runFrom (planOf xs))) i (record { processor = suc slot; start = s })
       runs-placed =
@@ -88,7 +87,7 @@ module _ {b : Shape} {J : Job} (f : JobBounds b J) (xs last : List ℕ) (x : Boo
       last-placed =
           let u : slot < b .board .blue .processors + b .board .red .processors = omega (arith, slot-exists b x p exists) in
           list-set _ (λ q. getD last q 0) (λ q. getD (set last slot (s + time)) q 0) slot (s + time) u
-          (getD-set-same last slot (s + time) 0 (omega (arith, f .blueProcessors .most, f .redProcessors .most)))
+          (getD-set-same last slot (s + time) 0 (omega (arith, f .processors .blue .most, f .processors .red .most)))
           (λ q h d. getD-set-other last slot q (s + time) 0 d)
 
       pub placed : {zs : List ℕ} → zs ≡ withRun ys i (slot + 1) s → partialFrom b (planOf zs) (set last slot (s + time)) ≡ assign I Q i (colourBy x) s

@@ -5,22 +5,17 @@ use mathlib.Core.List.{List}
 use mathlib.Core.Path.{_≡_, refl, sym, ap, _∙_}
 use native.Mathlib.Omega.{arith}
 use lib.Dec.{leb, eqb}
-use lib.ListN.{getD}
 use Rattle.rules.specs.Count.{maxWhere}
 use Rattle.rules.specs.Limits.{processorCounts}
 use Rattle.rules.specs.Model.{Instance, Colour, sideOf}
 use Rattle.rules.specs.Scheduling.{Partial, slotOf, lastFinishOn, freeBy, latestFree, chosenProcessor, processorStart}
-use Rattle.rules.proofs.CountLaws.{max-cong, getD-listBelow}
+use Rattle.rules.proofs.CountLaws.{max-cong, first-passed}
 use Rattle.rules.proofs.StartLaws.{free-processor, processorLaw}
 use Rattle.model.specs.declared.layout.Shape.{Shape}
-use Rattle.model.specs.Layout.{Job, Plan, instanceFrom, partialFrom, colourBy, JobBounds}
-use Rattle.model.proofs.LayoutLaws.{processors-of}
+use Rattle.model.specs.Layout.{Job, Plan, instanceFrom, partialFrom, colourBy, countIn, Processors, lastLength}
+use Rattle.model.proofs.LayoutLaws.{processors-of, last-finish-at}
 use Rattle.model.proofs.StepLaws.{max-turn}
-use Rattle.placing.specs.Slots.{Processors, countIn, slotIn, lastIn, lastLength}
-use Rattle.placing.proofs.IndexLaws.{first-is}
-
-pub processors-in : {b : Shape} {J : Job} → JobBounds b J → Processors b
-processors-in f = record { blue = f .blueProcessors; red = f .redProcessors }
+use Rattle.placing.specs.Slots.{slotIn, lastIn}
 
 pub slot-exists : (b : Shape) (x : Bool) (p : ℕ) → p < countIn b x → slotIn b x p < b .board .blue .processors + b .board .red .processors
 slot-exists b true p h = omega arith
@@ -80,7 +75,7 @@ module _ (b : Shape) (xs : List ℕ) (x : Bool) (s : ℕ) where
     c = colourBy x
 
     pub last-at : (p : ℕ) → p < countIn b x → lastFinishOn I Q c p ≡ lastIn b xs x p
-    last-at p h = rw (slot-at b J x p) (getD-listBelow _ (λ p. getD xs p 0) (slotIn b x p) 0 (slot-exists b x p h))
+    last-at p h = rw (slot-at b J x p) (last-finish-at b L xs (slotIn b x p) (slot-exists b x p h))
 
     latest-at : maxWhere (sideOf I c .processors) (freeBy I Q c s) (lastFinishOn I Q c) ≡ latestIn
     latest-at = rw (processors-of b J x) (max-cong (countIn b x) _ _ (λ p h. rw (last-at p h)))
@@ -93,8 +88,8 @@ module _ (b : Shape) (xs : List ℕ) (x : Bool) (s : ℕ) where
     unfolding chosenProcessor
     chosen-first p l before here =
         let n : sideOf I c .processors ≡ countIn b x = processors-of b J x in
-        first-is (sideOf I c .processors) (latestFree I Q c s) p (omega arith)
-        (λ q h. suits-at q (omega arith) ∙ before q h) (λ h. suits-at p (omega arith) ∙ here (omega arith))
+        first-passed (sideOf I c .processors) (latestFree I Q c s) p (omega arith)
+        (λ h. suits-at p (omega arith) ∙ here (omega arith)) (λ q h. suits-at q (omega arith) ∙ before q h)
 
     -- it exists, if the start is not before start 1
     pub chosen-exists : Processors b → processorStart I Q c ≤ s → {p : ℕ} → p ≡ chosenProcessor I Q c s → p < countIn b x

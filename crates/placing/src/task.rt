@@ -2,10 +2,9 @@
 ghost use mathlib.Core.Path.{_≡_};
 ghost use Prim.Native.Nat.{_+_, _<_, _≤_};
 ghost use lib.ListN.{length, set};
-ghost use Rattle.rules.specs.Limits.{maxTasks, moveTimes};
+ghost use Rattle.rules.specs.Limits.{maxTasks};
 ghost use Rattle.rules.specs.Scheduling.{processorStart, assign};
-ghost use Rattle.model.specs.Layout.{jobOf, planOf, instanceFrom, partialFrom, colourBy, JobBounds, lastTick};
-ghost use Rattle.placing.specs.Slots.{planLength, lastLength};
+ghost use Rattle.model.specs.Layout.{jobOf, planOf, instanceFrom, partialFrom, colourBy, JobBounds, planLength, lastLength, lastStart};
 use super::moves::set_moves;
 use super::processor::chosen_processor;
 use super::processor::slot_in;
@@ -33,7 +32,7 @@ pub fn place(
 )
     requires { ⌜ JobBounds shape (jobOf (now job)) ⌝ }
     requires { ⌜ (length (now plan) ≡ planLength) × (length (now last) ≡ lastLength) ⌝ }
-    requires { ⌜ (i < shape .tasks) × (start ≤ lastTick + moveTimes .most) ⌝ }
+    requires { ⌜ (i < shape .tasks) × (start ≤ lastStart) ⌝ }
     requires { ⌜ processorStart (instanceFrom shape (jobOf (now job))) (partialFrom shape (planOf (now plan)) (now last)) (colourBy blue) ≤ start ⌝ }
     ensures { λ r. ⌜ (length (now (plan .exit)) ≡ planLength) × (length (now (last .exit)) ≡ lastLength) ⌝ }
     ensures { λ r. ⌜ partialFrom shape (planOf (now (plan .exit))) (now (last .exit)) ≡ assign (instanceFrom shape (jobOf (now (job .entry)))) (partialFrom shape (planOf (now (plan .entry))) (now (last .entry))) i (colourBy blue) start ⌝ }

@@ -6,12 +6,10 @@ use mathlib.Core.List.{List}
 use mathlib.Core.Path.{_≡_, sym, ap, _∙_}
 use native.Mathlib.Omega.{arith}
 use native.Mathlib.Numerals.{add-one}
-use lib.ListN.{getD}
 use Rattle.rules.specs.Limits.{maxTasks, ticks}
 use Rattle.rules.specs.Model.{Instance, taskCount}
 use Rattle.rules.specs.Scheduling.{Partial, empty, assign, nothing, choose, Planner, roundOf, complete, stuck, rounds, outcome, processorStart}
 use Rattle.rules.specs.Promises.{WellFormed, Trial}
-use Rattle.rules.proofs.CountLaws.{getD-listBelow}
 use Rattle.rules.proofs.RoundLaws.{round-trial}
 use Rattle.rules.proofs.SoundLaws.{Sound, stride, start-processor, assign-sound, empty-sound, moveBound}
 use Rattle.rules.proofs.TurnLaws.{rounds-stuck, rounds-place, rounds-done, outcome-is}
@@ -20,7 +18,7 @@ use Rattle.rounds.specs.declared.round.Round.{Round}
 use Rattle.rounds.specs.declared.trial.Choice.the-variants.{Nothing, Choose}
 use Rattle.rounds.specs.Choices.{asChoice, asRound}
 use Rattle.model.specs.Layout.{colourBy, Job, Plan, instanceFrom, scheduleFrom, partialFrom, Bounds, LastBounds}
-use Rattle.model.proofs.LayoutLaws.{task-count, file-count, run-at, move-at, job-bounds}
+use Rattle.model.proofs.LayoutLaws.{task-count, file-count, run-at, move-at, last-finish-at, job-bounds}
 
 pub record Planning (R : Planner) (b : Shape) (J : Job) (L : Plan) (last : List ℕ) (placed trials : ℕ) : Type 0 where
   pub most : placed ≤ b .tasks
@@ -65,7 +63,7 @@ module _ (R : Planner) (b : Shape) (J : Job) (W : WellFormed (instanceFrom b J))
 
     pub planning-last : LastBounds b last
     planning-last q h =
-        omega (arith, getD-listBelow (b .board .blue .processors + b .board .red .processors) (λ p. getD last p 0) q 0 h, p .sound .lastBound q, few)
+        omega (arith, last-finish-at b L last q h, p .sound .lastBound q, few)
 
     -- ---- after a round, with a task left
 

@@ -1,23 +1,18 @@
 -- The trials of one task: the cases of the small functions on choices.
-use Prim.Native.Nat.{ℕ, _+_, _≤_, _<_}
-use mathlib.Core.Bool.{Bool, cond}
+use Prim.Native.Nat.{ℕ, _≤_, _<_}
+use mathlib.Core.Bool.{Bool}
 use mathlib.Core.Path.{_≡_, _∙_}
 use borrow.Author.Tests.{le-leb, lt-leb}
 use Rattle.rules.specs.Model.{blue, red, Instance}
 use Rattle.rules.specs.Scheduling.{Partial, nothing, choose, earliestStart, finishOn, tried, earlier, bothColours}
 use Rattle.model.specs.declared.layout.Shape.{Shape}
-use Rattle.model.specs.Layout.{Job, instanceFrom, colourBy}
-use Rattle.model.proofs.LayoutLaws.{task-at, time-by}
+use Rattle.model.specs.Layout.{colourBy, lastStart}
 use Rattle.starts.specs.declared.memory.Free.{Free}
 use Rattle.starts.specs.declared.memory.Free.the-variants.{Nowhere, From}
-use Rattle.starts.specs.FreeMemory.{asOption, lastStart}
+use Rattle.starts.specs.FreeMemory.{asOption}
 use Rattle.rounds.specs.declared.trial.Choice.{Choice}
 use Rattle.rounds.specs.declared.trial.Choice.the-variants.{Nothing, Choose}
 use Rattle.rounds.specs.Choices.{asChoice, ChoiceBounds}
-
-pub finish-on-at : (b : Shape) (J : Job) {i : ℕ} → i < b .tasks → (x : Bool) (s : ℕ) {t : ℕ} → t ≡ cond x (J .onBlue i) (J .onRed i)
-    → s + t ≡ finishOn (instanceFrom b J) i (colourBy x) s
-finish-on-at b J {i} h x s e = rw (task-at b J i h, time-by, e)
 
 module _ (i : ℕ) (x : Bool) (a : Free) where
   pub tried-nowhere : a ≡ Nowhere → nothing ≡ tried i (colourBy x) (asOption a)

@@ -1,8 +1,7 @@
 -- Which tasks are ready, by what the code finds of the plan and the files.
-use Prim.Native.Nat.{ℕ, _+_, _<_}
+use Prim.Native.Nat.{ℕ, _<_}
 use mathlib.Core.Bool.{Bool, true, false, not, _&&_}
-use mathlib.Core.Path.{_≡_, refl, sym, ap, _∙_}
-use native.Mathlib.Numerals.{add-one}
+use mathlib.Core.Path.{_≡_, sym, ap, _∙_}
 use native.Mathlib.Omega.{arith}
 use lib.Dec.{ltb, eqb}
 use borrow.Author.Tests.{eq-eqb, ne-eqb}
@@ -14,14 +13,6 @@ use Rattle.rules.proofs.CountLaws.{any-some}
 use Rattle.model.specs.declared.layout.Shape.{Shape}
 use Rattle.model.specs.Layout.{Job, Plan, instanceFrom, scheduleFrom, Bounds}
 use Rattle.model.proofs.LayoutLaws.{file-count, file-at, run-at}
-
-pub any-empty : (p : ℕ → Bool) → anyBelow 0 p ≡ false
-unfolding anyBelow
-any-empty p = refl
-
-pub any-next : (p : ℕ → Bool) (n : ℕ) → anyBelow n p ≡ false → {x : Bool} → x ≡ p n → x ≡ false → anyBelow (n + 1) p ≡ false
-unfolding anyBelow
-any-next p n e g h = rw (add-one n, e, sym g ∙ h)
 
 module _ {b : Shape} {J : Job} {L : Plan} (f : Bounds b J L) (i : ℕ) where
   abbrev I : Instance

@@ -1,13 +1,11 @@
 -- The code's choice and round, as the rules have them, and the bounds of what they hold.
-use Prim.Native.Nat.{ℕ, _+_, _≤_, _<_}
+use Prim.Native.Nat.{ℕ, _≤_, _<_}
 use mathlib.Core.Bool.{Bool, true, false}
 use mathlib.Core.List.{List}
 use lib.ListN.{getD}
-use Rattle.rules.specs.Limits.{runTimes}
 use Rattle.rules.specs.Scheduling.{Choice as Chosen, nothing, choose, Round as Made}
 use Rattle.model.specs.declared.layout.Shape.{Shape}
-use Rattle.model.specs.Layout.{colourBy}
-use Rattle.starts.specs.FreeMemory.{lastStart}
+use Rattle.model.specs.Layout.{colourBy, lastStart}
 use Rattle.rounds.specs.declared.trial.Choice.{Choice}
 use Rattle.rounds.specs.declared.trial.Choice.the-variants.{Nothing, Choose}
 use Rattle.rounds.specs.declared.round.Round.{Round}
@@ -32,7 +30,3 @@ ChoiceBounds b (Choose i blue s) = (i < b .tasks) × (s ≤ lastStart)
 -- each of the tasks listed exists
 abbrev pub OrderBounds : Shape → List ℕ → Type 0
 OrderBounds b order = (p : ℕ) → p < b .tasks → getD order p 0 < b .tasks
-
--- no finish of a run that starts at an earliest start is later
-abbrev pub latestFinish : ℕ
-latestFinish = lastStart + runTimes .most

@@ -1,7 +1,7 @@
 -- The walk of a list of at most `maxTasks` runs finds the first overlap.
 use Prim.Native.Nat.{ℕ, _+_, _<_, _≤_, zero-le}
 use mathlib.Core.Path.{_≡_, refl, sym, _∙_, ap}
-use mathlib.Core.Bool.{Bool, true, false, _&&_}
+use mathlib.Core.Bool.{Bool, false, _&&_}
 use mathlib.Core.List.{List, [], _∷_, _++_, append-nil, append-assoc}
 use mathlib.Core.Logic.{_≢_}
 use native.Mathlib.Omega.{arith}
@@ -9,10 +9,10 @@ use native.Mathlib.Decide.{ℕ-discrete}
 use lib.Dec.{ltb, eqb}
 use lib.ListN.{length, getD, set, take, length-append, length-set, length-replicate}
 use lib.Seq.{length-take-le, getD-at, getD-take, getD-set-same, getD-set-other}
-use borrow.Author.Tests.{eqb-true, eqb-false, eq-eqb, ne-eqb, lt-ltb, le-ltb}
+use borrow.Author.Tests.{lt-ltb, le-ltb}
 use Rattle.rules.specs.Count.{firstBelow}
 use Rattle.rules.specs.Limits.{maxTasks}
-use Rattle.rules.proofs.Tests.{split, by-order}
+use Rattle.rules.proofs.Tests.{by-order, and-swap, eqb-sym}
 use Rattle.rules.proofs.CountLaws.{first-before, first-holds, first-cong}
 use Rattle.runs.specs.First.{FirstOverlap}
 use Rattle.runs.specs.Scan.{overlapping, overlapsAt, lowestWith, noRun, nothingSeen, seenNext, scanned}
@@ -20,16 +20,6 @@ use Rattle.runs.specs.declared.Run.{Run}
 use Rattle.runs.specs.declared.Seen.{Seen}
 
 -- ---- an overlap is mutual
-
-eqb-sym : (a b : ℕ) → eqb a b ≡ eqb b a
-eqb-sym a b = split (eqb a b) (λ e. e ∙ sym (eq-eqb b a (sym (eqb-true a b e)))) (λ e. e ∙ sym (ne-eqb b a (λ p. eqb-false a b e (sym p))))
-
-and-swap : (x y z : Bool) → x && y && z ≡ x && z && y
-and-swap true true true = refl
-and-swap true true false = refl
-and-swap true false true = refl
-and-swap true false false = refl
-and-swap false y z = refl
 
 overlapping-sym : (a b : Run) → overlapping a b ≡ overlapping b a
 unfolding overlapping

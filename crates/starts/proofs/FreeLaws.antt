@@ -2,7 +2,7 @@
 use Prim.Native.Nat.{ℕ, _+_, _-_, _≤_, pred}
 use mathlib.Core.Bool.{Bool, true, false, cond}
 use mathlib.Core.Option.{none, some}
-use mathlib.Core.Path.{_≡_, refl, sym, _∙_, ap}
+use mathlib.Core.Path.{_≡_, sym, _∙_, ap}
 use native.Mathlib.Numerals.{sub-one}
 use native.Mathlib.Omega.{arith}
 use lib.Dec.{leb}
@@ -10,17 +10,15 @@ use Rattle.rules.specs.Count.{maxBelow}
 use Rattle.rules.specs.Model.{Colour, Instance, Schedule}
 use Rattle.rules.specs.Residency.{Hold as Held, never, during, since, settles, holdOf, held, horizon}
 use Rattle.rules.specs.Scheduling.{fits, freeFrom}
+use Rattle.rules.proofs.Tests.{cond-zero}
+use Rattle.rules.proofs.ResidencyLaws.{free-nowhere}
 use Rattle.model.specs.declared.layout.Shape.{Shape}
 use Rattle.model.specs.declared.residency.Hold.{Hold}
 use Rattle.model.specs.Layout.{Job, Plan, instanceFrom, scheduleFrom, colourBy}
 use Rattle.model.specs.Holds.{asHold}
 use Rattle.model.proofs.LayoutLaws.{file-count, limit-of}
 use Rattle.starts.specs.FreeMemory.{endOf, lateEnd}
-use Rattle.starts.proofs.LateLaws.{free-latest, free-nowhere}
-
-cond-zero : (b : Bool) → _≡_ {A = ℕ} (cond b 0 0) 0
-cond-zero true = refl
-cond-zero false = refl
+use Rattle.starts.proofs.LateLaws.{free-latest}
 
 -- a hold changes no more from its end on
 pub end-settles : (h : Held) → endOf h ≤ settles h

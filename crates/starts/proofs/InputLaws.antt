@@ -1,21 +1,13 @@
 -- What the accessors read of a task's files, as the rules have it.
 use Prim.Native.Nat.{ℕ, _+_, _<_}
 use mathlib.Core.Bool.{Bool, cond}
-use mathlib.Core.Path.{_≡_, sym, ap, _∙_}
+use mathlib.Core.Path.{_≡_, ap, _∙_}
 use native.Mathlib.Omega.{arith}
-use lib.Dec.{eqb}
 use Rattle.rules.specs.Model.{Instance, Schedule, finishAt, madeAt, moveTimeAt}
-use Rattle.rules.specs.Scheduling.{reads, makes, crossing, arrival}
+use Rattle.rules.specs.Scheduling.{crossing, arrival}
 use Rattle.model.specs.declared.layout.Shape.{Shape}
 use Rattle.model.specs.Layout.{Job, Plan, instanceFrom, scheduleFrom, colourBy, Bounds}
-use Rattle.model.proofs.LayoutLaws.{file-at, maker-at, reader-at, move-time-at}
-
-module _ (b : Shape) (J : Job) {k : ℕ} (h : k < b .files) (i : ℕ) where
-  pub reads-at : {j : ℕ} → j ≡ J .reader k → eqb j i ≡ reads (instanceFrom b J) i k
-  reads-at e = ap (λ j. eqb j i) (e ∙ sym (reader-at b J k h))
-
-  pub makes-at : {j : ℕ} → j ≡ J .maker k → eqb j i ≡ makes (instanceFrom b J) i k
-  makes-at e = ap (λ j. eqb j i) (e ∙ sym (maker-at b J k h))
+use Rattle.model.proofs.LayoutLaws.{file-at, move-time-at}
 
 module _ {b : Shape} {J : Job} {L : Plan} (f : Bounds b J L) {k : ℕ} (h : k < b .files) (i : ℕ) (c : Bool) where
   abbrev I : Instance

@@ -8,9 +8,8 @@ use Rattle.rules.specs.Model.{Colour, Instance, Schedule, sizeAt, moveTimeAt}
 use Rattle.rules.specs.Scheduling.{reads, makes, crossing, arrival, crossingSize, crossingTime, outputSize, inputStart}
 use Rattle.model.specs.declared.layout.Shape.{Shape}
 use Rattle.model.specs.Layout.{Job, Plan, instanceFrom, scheduleFrom}
-use Rattle.model.proofs.LayoutLaws.{file-count, size-at, move-time-at}
+use Rattle.model.proofs.LayoutLaws.{file-count, size-at, move-time-at, makes-at, reads-at}
 use Rattle.model.proofs.StepLaws.{sum-turn, max-turn}
-use Rattle.starts.proofs.InputLaws.{reads-at, makes-at}
 
 module _ (b : Shape) (J : Job) (i : ℕ) where
   abbrev I : Instance

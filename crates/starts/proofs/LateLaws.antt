@@ -1,8 +1,8 @@
 -- The first tick from which on memory is free is the latest end of a hold just before which it is not.
 use Prim.Native.Nat.{ℕ, zero, suc, _+_, _≤_, _<_, pred}
-use mathlib.Core.Bool.{Bool, true, false, cond}
-use mathlib.Core.Option.{none, some}
-use mathlib.Core.Path.{_≡_, refl}
+use mathlib.Core.Bool.{Bool, true, false}
+use mathlib.Core.Option.{some}
+use mathlib.Core.Path.{_≡_, refl, ap, _∙_}
 use native.Mathlib.Omega.{arith}
 use native.Mathlib.Decide.{decLe}
 use lib.Dec.{ltb}
@@ -11,11 +11,10 @@ use Rattle.rules.specs.Count.{maxBelow, settledFrom}
 use Rattle.rules.specs.Model.{Colour, Instance, limitOf, fileCount, sizeAt, Schedule}
 use Rattle.rules.specs.Residency.{Hold as Held, never, during, since, covers, holdOf, held, horizon}
 use Rattle.rules.specs.Scheduling.{fits, freeFrom}
-use Rattle.rules.proofs.Tests.{split, clash, and-true}
-use Rattle.rules.proofs.CountLaws.{max-bound, max-under, settled-holds}
-use Rattle.rules.proofs.ResidencyLaws.{held-settled}
+use Rattle.rules.proofs.Tests.{split, clash, and-true, cond-less}
+use Rattle.rules.proofs.CountLaws.{sum-less, max-bound, max-under, settled-before}
+use Rattle.rules.proofs.ResidencyLaws.{fits-true, free-found, settled-first}
 use Rattle.starts.specs.FreeMemory.{endOf, lateEnd}
-use Rattle.starts.proofs.BelowLaws.{sum-less, settled-before}
 
 -- a hold that covers j and not the next tick ends there
 falls : (h : Held) (j : ℕ) → covers h j ≡ true → covers h (suc j) ≡ false → endOf h ≡ suc j
@@ -27,12 +26,6 @@ falls (during a b) j p q =
     let z : ltb (suc j) b ≡ false = rw (le-leb a (suc j) (omega arith)) at q in
     omega (arith, ltb-false (suc j) b z)
 falls (since a) j p q = clash (le-leb a (suc j) (omega (arith, leb-true a j p))) q
-
-less-cond : (a b : Bool) (x : ℕ) → cond a x 0 < cond b x 0 → (b ≡ true) × (a ≡ false)
-less-cond true true x h = absurd (omega arith)
-less-cond true false x h = absurd (omega arith)
-less-cond false true x h = (refl, refl)
-less-cond false false x h = absurd (omega arith)
 
 module _ (I : Instance) (P : Schedule) (c : Colour) (need : ℕ) where
   abbrev last : ℕ
@@ -52,7 +45,7 @@ module _ (I : Instance) (P : Schedule) (c : Colour) (need : ℕ) where
   unfolding held
   held-falls j h =
       let r = sum-less (fileCount I) _ _ h in
-      let q = less-cond (covers (holdOf I P c (r .0)) (suc j)) (covers (holdOf I P c (r .0)) j) (sizeAt I (r .0)) (r .2) in
+      let q = cond-less (covers (holdOf I P c (r .0)) (suc j)) (covers (holdOf I P c (r .0)) j) (sizeAt I (r .0)) (r .2) in
       (r .0, r .1, falls (holdOf I P c (r .0)) j (q .0) (q .1))
 
   fits-falls : (j : ℕ) → p j ≡ false → p (suc j) ≡ true → held I P c (suc j) < held I P c j
@@ -69,11 +62,7 @@ module _ (I : Instance) (P : Schedule) (c : Colour) (need : ℕ) where
 
   module _ (free : p last ≡ true) where
     fits-later : (t : ℕ) → settled ≤ t → p t ≡ true
-    unfolding fits
-    fits-later t l = elim (decLe last t) [
-      | yes h ↦ rw (held-settled I P c t h) free
-      | no h ↦ settled-holds last p t l (omega arith)
-    ]
+    fits-later t l = fits-true I P c need t (settled-first I P c need free .holds t l)
 
     late-bounded : (k : ℕ) → lateEnd I P c need k ≤ settled
     late-bounded k =
@@ -96,9 +85,4 @@ module _ (I : Instance) (P : Schedule) (c : Colour) (need : ℕ) where
     settled-latest = omega (arith, settled-late settled refl, max-under (fileCount I) (lateEnd I P c need) settled (λ k l. late-bounded k))
 
     pub free-latest : freeFrom I P c need ≡ some latest
-    unfolding freeFrom
-    free-latest = rw (free, settled-latest)
-
-  pub free-nowhere : p last ≡ false → freeFrom I P c need ≡ none
-  unfolding freeFrom
-  free-nowhere e = rw e
+    free-latest = free-found I P c need free ∙ ap some settled-latest

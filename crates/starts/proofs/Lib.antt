@@ -1,7 +1,5 @@
 -- The laws that the proofs of this crate, and of those above it, cite.
 
--- sums, least values and searches below an index
-pub mod BelowLaws
 -- starts 3 and 4: the first tick from which on memory is free
 pub mod LateLaws
 pub mod FreeLaws

@@ -8,17 +8,15 @@ use native.Mathlib.Omega.{arith}
 use native.Mathlib.Nat.{add-zero}
 use lib.ListN.{getD}
 use Rattle.rules.specs.Count.{minUpTo}
-use Rattle.rules.specs.Limits.{processorCounts}
 use Rattle.rules.specs.Model.{Instance, Schedule}
-use Rattle.rules.specs.Promises.{In}
 use Rattle.rules.specs.Scheduling.{Partial, processorStart, inputStart, crossingSize, crossingTime, outputSize, freeFrom, latest, delayed, earliestStart}
-use Rattle.rules.proofs.CountLaws.{getD-listBelow}
+use Rattle.rules.proofs.CountLaws.{min-cong}
 use Rattle.model.specs.declared.layout.Shape.{Shape}
-use Rattle.model.specs.Layout.{Job, Plan, instanceFrom, scheduleFrom, colourBy, partialFrom}
+use Rattle.model.specs.Layout.{Job, Plan, instanceFrom, scheduleFrom, colourBy, partialFrom, countIn, Processors}
+use Rattle.model.proofs.LayoutLaws.{last-finish-at}
 use Rattle.starts.specs.declared.memory.Free.{Free}
 use Rattle.starts.specs.declared.memory.Free.the-variants.{Nowhere, From}
 use Rattle.starts.specs.FreeMemory.{asOption, tickOf}
-use Rattle.starts.proofs.BelowLaws.{min-cong}
 
 -- ---- the greatest of the four
 
@@ -63,16 +61,16 @@ module _ (b : Shape) (J : Job) (L : Plan) (last : List ℕ) where
   Q = partialFrom b L last
 
   slot : (p q : ℕ) → q ≡ p → q < b .board .blue .processors + b .board .red .processors → getD (Q .lastFinish) q 0 ≡ getD last p 0
-  slot p q e l = getD-listBelow (b .board .blue .processors + b .board .red .processors) (λ p. getD last p 0) q 0 l ∙ ap (λ p. getD last p 0) e
+  slot p q e l = last-finish-at b L last q l ∙ ap (λ p. getD last p 0) e
 
-  module _ (blues : In processorCounts (b .board .blue .processors)) (reds : In processorCounts (b .board .red .processors)) where
+  module _ (f : Processors b) where
     least-finish : (c : Bool) → processorStart I Q (colourBy c)
-        ≡ minUpTo (pred (cond c (b .board .blue .processors) (b .board .red .processors))) (at last (cond c 0 (b .board .blue .processors)))
+        ≡ minUpTo (pred (countIn b c)) (at last (cond c 0 (b .board .blue .processors)))
     unfolding processorStart instanceFrom
-    least-finish true = min-cong (pred (b .board .blue .processors)) _ _ (λ p l. slot (0 + p) p (omega arith) (omega (arith, blues .least)))
-    least-finish false = min-cong (pred (b .board .red .processors)) _ _ (λ p l. slot (b .board .blue .processors + p) (b .board .blue .processors + p) refl (omega (arith, reds .least)))
+    least-finish true = min-cong (pred (b .board .blue .processors)) _ _ (λ p l. slot (0 + p) p (omega arith) (omega (arith, f .blue .least)))
+    least-finish false = min-cong (pred (b .board .red .processors)) _ _ (λ p l. slot (b .board .blue .processors + p) (b .board .blue .processors + p) refl (omega (arith, f .red .least)))
 
-    pub least-total : (c : Bool) {first n i : ℕ} → first ≡ cond c 0 (b .board .blue .processors) → n ≡ cond c (b .board .blue .processors) (b .board .red .processors)
+    pub least-total : (c : Bool) {first n i : ℕ} → first ≡ cond c 0 (b .board .blue .processors) → n ≡ countIn b c
         → i ≡ n → minUpTo (pred i) (at last first) ≡ processorStart I Q (colourBy c)
     least-total c x y z = rw (x, z, y, least-finish c)
 

@@ -5,8 +5,7 @@ use mathlib.Core.Option.{Option, none, some}
 use Rattle.rules.specs.Model.{Colour, Instance, Schedule}
 use Rattle.rules.specs.Residency.{Hold, never, during, since, holdOf}
 use Rattle.rules.specs.Scheduling.{fits}
-use Rattle.rules.specs.Limits.{moveTimes}
-use Rattle.model.specs.Layout.{lastTick, mostHeld}
+use Rattle.model.specs.Layout.{mostHeld}
 use Rattle.starts.specs.declared.memory.Free.{Free}
 use Rattle.starts.specs.declared.memory.Free.the-variants.{Nowhere, From}
 
@@ -18,10 +17,6 @@ asOption (From t) = some t
 abbrev pub tickOf : Free → ℕ
 tickOf Nowhere = 0
 tickOf (From t) = t
-
--- no earliest start is later
-abbrev pub lastStart : ℕ
-lastStart = lastTick + moveTimes .most
 
 -- no task needs more: its crossing files and the files that it makes
 abbrev pub mostNeeded : ℕ

@@ -2,11 +2,10 @@
 ghost use mathlib.Core.Path.{_≡_};
 ghost use mathlib.Core.Option.{some};
 ghost use Prim.Native.Nat.{_+_, _≤_};
-ghost use Rattle.rules.specs.Limits.{processorCounts, moveTimes};
-ghost use Rattle.rules.specs.Promises.{In};
+ghost use Rattle.rules.specs.Limits.{moveTimes};
 ghost use Rattle.rules.specs.Scheduling.{processorStart, latest as rules-latest, delayed, earliestStart};
-ghost use Rattle.model.specs.Layout.{Job, Plan, jobOf, planOf, instanceFrom, partialFrom, colourBy, Bounds, LastBounds, lastTick};
-ghost use Rattle.starts.specs.FreeMemory.{asOption, tickOf, lastStart};
+ghost use Rattle.model.specs.Layout.{Job, Plan, jobOf, planOf, instanceFrom, partialFrom, colourBy, Processors, Bounds, LastBounds, lastTick, lastStart};
+ghost use Rattle.starts.specs.FreeMemory.{asOption, tickOf};
 use super::inputs::crossing_size;
 use super::inputs::crossing_time;
 use super::inputs::input_start;
@@ -21,7 +20,7 @@ use model::layout::Shape;
 
 // Start 1: the least last finish of the colour's processors.
 pub fn processor_start(shape: Shape, last: &[u64; layout::LAST], colour: bool) -> u64
-    requires { ⌜ In processorCounts (shape .board .blue .processors) × In processorCounts (shape .board .red .processors) ⌝ }
+    requires { ⌜ Processors shape ⌝ }
     requires { ⌜ LastBounds shape (now last) ⌝ }
     ensures { λ r. ⌜ ((J : Job) (L : Plan) → r ≡ processorStart (instanceFrom shape J) (partialFrom shape L (now (last .entry))) (colourBy colour)) ⌝ }
     ensures { λ r. ⌜ r ≤ lastTick ⌝ }

@@ -10,7 +10,7 @@ use lib.ListN.{length, set}
 use lib.Seq.{getD-set-same, getD-set-other}
 use borrow.Author.Tests.{lt-ltb, le-ltb}
 use Rattle.rules.specs.Count.{maxBelow, firstBelow}
-use Rattle.rules.specs.Model.{Colour, blue, red, sameColour, Instance, Schedule, taskCount, fileCount, startAt, finishAt, isPlaced, makerRun, readerRun}
+use Rattle.rules.specs.Model.{Colour, blue, red, sameColour, Instance, Schedule, taskCount, fileCount, startAt, finishAt, isPlaced, runAt, makerRun, readerRun}
 use Rattle.rules.specs.Residency.{holdOf, held}
 use Rattle.rules.specs.Validity.{overlaps, early, readsEarly, makespan, peak, over}
 use Rattle.rules.proofs.CompleteLaws.{none-held}
@@ -18,7 +18,7 @@ use Rattle.model.specs.declared.layout.Shape.{Shape}
 use Rattle.model.specs.declared.residency.Hold.{Hold}
 use Rattle.model.specs.Layout.{Job, Plan, Bounds, instanceFrom, scheduleFrom, colourBy}
 use Rattle.model.specs.Holds.{asHold}
-use Rattle.model.proofs.LayoutLaws.{file-count, task-count, file-at, maker-at, reader-at, move-time-at, run-at, move-at, limit-of, isBlue, moved-at}
+use Rattle.model.proofs.LayoutLaws.{file-count, task-count, maker-at, reader-at, move-time-at, run-at, move-at, limit-of, isBlue, moved-at}
 use Rattle.model.proofs.StepLaws.{max-next}
 use Rattle.runs.specs.declared.Run.{Run}
 use Rattle.runs.specs.First.{FirstOverlap}
@@ -69,7 +69,7 @@ module _ {b : Shape} {J : Job} {L : Plan} (f : Bounds b J L) where
 
     -- whether a file is early, from what the accessors read
     module _ {i j made departs takes starts : ℕ} {from to s : Bool} (maker : i ≡ m) (reader : j ≡ d)
-        (from-is : from ≡ isBlue f i) (to-is : to ≡ isBlue f j) (moves : s ≡ sameColour (colourBy from) (colourBy to))
+        (from-is : from ≡ isBlue b L i) (to-is : to ≡ isBlue b L j) (moves : s ≡ sameColour (colourBy from) (colourBy to))
         (leaves : departs ≡ L .moveStart k) (time : takes ≡ J .moveTime k) (made-is : made ≡ finishAt I P i) (starts-is : starts ≡ L .start j) where
       pub early-from : {r : Bool} → r ≡ cond (not s) (ltb departs made || ltb starts (departs + takes)) (ltb starts made) → r ≡ early I P k
       early-from e = e ∙ early-is I P k
@@ -111,17 +111,17 @@ module _ {b : Shape} {J : Job} {L : Plan} (f : Bounds b J L) where
     over-in-total last e = rw (file-count b J, e)
 
     module _ (placed : Placed b L) where
+      placed-at : {i j : ℕ} → j ≡ i → i < b .tasks → isPlaced (runAt P j) ≡ true
+      placed-at {i} e h = rw (e, run-at b L i h) (lt-ltb 0 (L .processor i) (placed i h))
+
+      file-in : {k : ℕ} → k < fileCount I → k < b .files
+      file-in l = omega (arith, file-count b J)
+
       maker-placed : (k : ℕ) → k < fileCount I → isPlaced (makerRun I P k) ≡ true
-      maker-placed k l =
-          let h : k < b .files = omega (arith, file-count b J) in
-          let g = f .job .maker k h in
-          rw (file-at b J k h, run-at b L (J .maker k) g) (lt-ltb 0 (L .processor (J .maker k)) (placed (J .maker k) g))
+      maker-placed k l = placed-at (maker-at b J k (file-in l)) (f .job .maker k (file-in l))
 
       reader-placed : (k : ℕ) → k < fileCount I → isPlaced (readerRun I P k) ≡ true
-      reader-placed k l =
-          let h : k < b .files = omega (arith, file-count b J) in
-          let g = f .job .reader k h in
-          rw (file-at b J k h, run-at b L (J .reader k) g) (lt-ltb 0 (L .processor (J .reader k)) (placed (J .reader k) g))
+      reader-placed k l = placed-at (reader-at b J k (file-in l)) (f .job .reader k (file-in l))
 
       pub peak-total : {n : ℕ} → n ≡ b .files → maxBelow n (heldAtStart I P c) ≡ peak I P c
       peak-total {n} e =

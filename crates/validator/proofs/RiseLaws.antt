@@ -1,39 +1,20 @@
 -- Totals rise only where a hold starts: so the greatest total at a start is the peak, and the least start over a limit the first instant over one.
 use Prim.Native.Nat.{ℕ, zero, suc, _≤_, _<_, min}
-use mathlib.Core.Bool.{Bool, true, false, cond, _||_}
+use mathlib.Core.Bool.{true, false, cond, _||_}
 use mathlib.Core.Path.{_≡_, refl}
 use mathlib.Core.Logic.{_⊎_, inl, inr, ⊎-elim}
 use native.Mathlib.Omega.{arith}
 use native.Mathlib.Decide.{decLe}
 use lib.Dec.{ltb, leb}
 use borrow.Author.Tests.{leb-true, leb-false, le-leb, ltb-true, lt-ltb}
-use Rattle.rules.specs.Count.{sumBelow, maxBelow, firstBelow}
+use Rattle.rules.specs.Count.{maxBelow, firstBelow}
 use Rattle.rules.specs.Model.{Colour, blue, red, Instance, limitOf, fileCount, sizeAt, Schedule}
 use Rattle.rules.specs.Residency.{Hold, never, during, since, covers, holdOf, held, horizon}
 use Rattle.rules.specs.Validity.{peak, over}
-use Rattle.rules.proofs.Tests.{split, clash, and-true}
-use Rattle.rules.proofs.CountLaws.{sum-zero, max-bound, max-under, first-is}
+use Rattle.rules.proofs.Tests.{split, clash, and-true, or-yes, cond-less}
+use Rattle.rules.proofs.CountLaws.{sum-less, sum-zero, max-bound, max-under, first-is}
 use Rattle.validator.specs.Starts.{startOf, startIn, heldAtStart, overAtStart, firstOverIn}
 use Rattle.validator.proofs.LeastLaws.{least-default, least-bound, least-reached}
-
--- a sum that is more has a value that is more
-sum-more : (n : ℕ) (f g : ℕ → ℕ) → sumBelow n f < sumBelow n g → (k : ℕ) × (k < n) × (f k < g k)
-unfolding sumBelow
-sum-more zero f g h = absurd (omega arith)
-sum-more (suc n) f g h = elim (decLe (g n) (f n)) [
-  | yes l ↦ let r = sum-more n f g (omega arith) in (r .0, omega (arith, r .1), r .2)
-  | no l ↦ (n, omega arith, omega arith)
-]
-
-cond-more : (a b : Bool) (x : ℕ) → cond a x 0 < cond b x 0 → (b ≡ true) × (a ≡ false)
-cond-more true true x h = absurd (omega arith)
-cond-more true false x h = absurd (omega arith)
-cond-more false true x h = (refl, refl)
-cond-more false false x h = absurd (omega arith)
-
-or-yes : (a : Bool) → a || true ≡ true
-or-yes true = refl
-or-yes false = refl
 
 -- a hold that covers the first tick starts there
 starts-first : (h : Hold) → covers h 0 ≡ true → startOf h ≡ 0
@@ -68,15 +49,15 @@ module _ (I : Instance) (P : Schedule) (c : Colour) where
   rises-first : 0 < held I P c 0 → Risen I P c 0
   unfolding held
   rises-first h =
-      let r = sum-more (fileCount I) (λ k. 0) (here 0) (omega (arith, sum-zero (fileCount I) (λ k. 0) (λ k l. refl))) in
-      let e = starts-first (holdOf I P c (r .0)) (cond-more false (covers (holdOf I P c (r .0)) 0) (sizeAt I (r .0)) (r .2) .0) in
+      let r = sum-less (fileCount I) (λ k. 0) (here 0) (omega (arith, sum-zero (fileCount I) (λ k. 0) (λ k l. refl))) in
+      let e = starts-first (holdOf I P c (r .0)) (cond-less false (covers (holdOf I P c (r .0)) 0) (sizeAt I (r .0)) (r .2) .0) in
       record { file = r .0; exists = r .1; by = omega arith; most = rw e (omega arith) }
 
   rises-next : (t : ℕ) → held I P c t < held I P c (suc t) → Risen I P c (suc t)
   unfolding held
   rises-next t h =
-      let r = sum-more (fileCount I) (here t) (here (suc t)) h in
-      let q = cond-more (covers (holdOf I P c (r .0)) t) (covers (holdOf I P c (r .0)) (suc t)) (sizeAt I (r .0)) (r .2) in
+      let r = sum-less (fileCount I) (here t) (here (suc t)) h in
+      let q = cond-less (covers (holdOf I P c (r .0)) t) (covers (holdOf I P c (r .0)) (suc t)) (sizeAt I (r .0)) (r .2) in
       let e = starts-next (holdOf I P c (r .0)) t (q .1) (q .0) in
       record { file = r .0; exists = r .1; by = omega arith; most = rw e (omega arith) }
 

@@ -6,8 +6,7 @@ use lib.ListN.{length, length-replicate}
 use Rattle.model.proofs.LayoutLaws.{job-bounds}
 use Rattle.placing.proofs.PlaceLaws.{empty-from}
 use Rattle.rounds.proofs.ChoiceLaws.{chosen-bounds}
-use Rattle.model.specs.Layout.{jobOf, planOf}
-use Rattle.placing.specs.Slots.{planLength, lastLength}
+use Rattle.model.specs.Layout.{jobOf, planOf, planLength, lastLength}
 use Rattle.planner.specs.Outcomes.{asPlanner}
 use Rattle.planner.proofs.PlanningLaws.{Planning, planning-start, planning-bounds, planning-last, planning-stuck, planning-processor, planning-next, planning-done}
 use borrow.Author.Needs.{needs}

@@ -4,7 +4,7 @@ use mathlib.Core.Bool.{false}
 use mathlib.Core.Path.{_≡_}
 use native.Mathlib.Omega.{arith}
 use borrow.Author.Count.{below-more}
-use Rattle.placing.specs.Slots.{countIn}
+use Rattle.model.specs.Layout.{countIn}
 use Rattle.placing.proofs.SlotLaws.{latestIn, suitsIn, suits-from, chosen-first}
 use borrow.Author.Needs.{needs}
 use Rattle.placing.proofs.processor.chosen_processor.Statement.{statement}

@@ -6,7 +6,8 @@ use mathlib.Core.Path.{_≡_, sym}
 use native.Mathlib.Omega.{arith}
 use Rattle.rules.specs.Count.{maxWhere}
 use Rattle.model.proofs.StepLaws.{max-none}
-use Rattle.placing.specs.Slots.{countIn, lastIn}
+use Rattle.model.specs.Layout.{countIn}
+use Rattle.placing.specs.Slots.{lastIn}
 use Rattle.placing.proofs.SlotLaws.{freeIn, latest-turn}
 use borrow.Author.Needs.{needs}
 use Rattle.placing.proofs.processor.latest_in.Statement.{statement}

@@ -4,7 +4,7 @@ use lib.ListN.{length-set}
 use Rattle.placing.proofs.PlaceLaws.{run-length, placed}
 use native.Mathlib.Omega.{arith}
 use Rattle.model.specs.Layout.{jobOf, planOf}
-use Rattle.placing.proofs.SlotLaws.{processors-in, chosen-exists}
+use Rattle.placing.proofs.SlotLaws.{chosen-exists}
 use borrow.Author.Needs.{needs}
 use Rattle.placing.proofs.task.place.Statement.{statement}
 use Rattle.placing.proofs.task.place.Tie as tie
@@ -20,7 +20,7 @@ slot-in-requires c κs =
     let s = c .before .before .before .before in
     let J = jobOf (s .args .job .now) in
     let L = planOf (s .args .plan .now) in
-    (processors-in (s .pre .0), chosen-exists (s .args .shape) (s .args .last .now) (s .args .blue) (s .args .start) J L (processors-in (s .pre .0)) (s .pre .1 .1 .1) (c .chosen-processor .ensures J L))
+    (s .pre .0 .processors, chosen-exists (s .args .shape) (s .args .last .now) (s .args .blue) (s .args .start) J L (s .pre .0 .processors) (s .pre .1 .1 .1) (c .chosen-processor .ensures J L))
 
 add-set-run : tie.Need-add-set-run
 add-set-run c = search needs
@@ -53,7 +53,7 @@ returns c =
     let chosen = c .before .before .before .before .chosen-processor .ensures J L in
     let slot = c .before .before .before .slot-in in
     let run = c .before .set-run .ensures in
-    let exists = chosen-exists (s .args .shape) (s .args .last .now) (s .args .blue) (s .args .start) J L (processors-in (s .pre .0)) (s .pre .1 .1 .1) chosen in (
+    let exists = chosen-exists (s .args .shape) (s .args .last .now) (s .args .blue) (s .args .start) J L (s .pre .0 .processors) (s .pre .1 .1 .1) chosen in (
       (
         run-length (moves .last .1 .1 .0) (s .args .i) (slot .result + 1) (s .args .start) run (moves .ensures .0),
         simp length-set (s .pre .1 .0 .1),

@@ -6,7 +6,8 @@ use native.Mathlib.Omega.{arith}
 use Rattle.rules.specs.Count.{anyBelow}
 use Rattle.rules.specs.Scheduling.{missing}
 use Rattle.model.specs.Layout.{jobOf, planOf, instanceFrom, scheduleFrom}
-use Rattle.rounds.proofs.ReadinessLaws.{any-empty, any-next, ready-placed, ready-missing, ready-found}
+use Rattle.model.proofs.StepLaws.{any-empty, any-next}
+use Rattle.rounds.proofs.ReadinessLaws.{ready-placed, ready-missing, ready-found}
 use borrow.Author.Needs.{needs}
 use Rattle.rounds.proofs.readiness.ready.Statement.{statement}
 use Rattle.rounds.proofs.readiness.ready.Tie as tie

@@ -1,7 +1,7 @@
 -- `finish_on` meets its contract.
 use native.Mathlib.Omega.{arith}
 use Rattle.model.specs.Layout.{jobOf}
-use Rattle.rounds.proofs.ChoiceLaws.{finish-on-at}
+use Rattle.model.proofs.LayoutLaws.{finish-on-at}
 use Rattle.rounds.proofs.trial.finish_on.Statement.{statement}
 use Rattle.rounds.proofs.trial.finish_on.Tie as tie
 

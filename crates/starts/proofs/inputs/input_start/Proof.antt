@@ -4,9 +4,8 @@ use mathlib.Core.Path.{_≡_, sym}
 use native.Mathlib.Omega.{arith}
 use Rattle.rules.specs.Count.{maxWhere}
 use Rattle.rules.specs.Scheduling.{reads, arrival}
-use Rattle.model.specs.Layout.{jobOf, planOf, instanceFrom, scheduleFrom, colourBy}
+use Rattle.model.specs.Layout.{jobOf, planOf, instanceFrom, scheduleFrom, colourBy, lastStart}
 use Rattle.model.proofs.StepLaws.{max-none}
-use Rattle.starts.specs.FreeMemory.{lastStart}
 use Rattle.starts.proofs.InputLoops.{input-turn, input-total}
 use borrow.Author.Needs.{needs}
 use Rattle.starts.proofs.inputs.input_start.Statement.{statement}

@@ -61,7 +61,7 @@ returns : tie.Need-returns Inv-loop μ-loop
 returns c =
     let s = c .before .before .before .before .before in
     let a = s .args in
-    (λ J L. c .before .loop .inv .3 ∙ least-total (a .shape) J L (a .last .now) (s .pre .0 .0) (s .pre .0 .1) (a .colour) {i = c .before .loop .i} (c .before .before .before .before .either .ensures .0) (c .before .before .before .either2 .ensures .0) (omega arith), omega arith)
+    (λ J L. c .before .loop .inv .3 ∙ least-total (a .shape) J L (a .last .now) (s .pre .0) (a .colour) {i = c .before .loop .i} (c .before .before .before .before .either .ensures .0) (c .before .before .before .either2 .ensures .0) (omega arith), omega arith)
 
 pub processor-start-spec : {M : Type 1} → statement M
 processor-start-spec =
