@@ -2,7 +2,6 @@
 use Prim.Native.Nat.{ℕ, suc, _≤_, _<_}
 use mathlib.Core.Path.{_≡_, sym, ap, subst, _∙_}
 use mathlib.Core.List.{List}
-use native.Mathlib.Omega.{arith}
 use borrow.Author.Tests.{le-leb, lt-leb}
 use lib.ListN.{length, drop}
 use Rattle.rules.specs.Limits.{maxText}
@@ -15,8 +14,7 @@ use Rattle.rules.proofs.TimetableOnlyLaws.{read-only}
 use Rattle.text.specs.declared.faults.Fault.{Fault}
 use Rattle.text.specs.Faults.{asFault}
 use Rattle.model.specs.declared.layout.Shape.{Shape}
-use Rattle.model.specs.Layout.{Job, Plan, instanceFrom, scheduleFrom, PlanBounds}
-use Rattle.model.proofs.LayoutLaws.{task-count, file-count, run-at, move-at}
+use Rattle.model.specs.Layout.{Job, Plan, instanceFrom, scheduleFrom}
 use Rattle.schedule.specs.declared.reader.Progress.{Progress}
 use Rattle.schedule.specs.declared.reader.Progress.the-variants.{At, Refused}
 use Rattle.schedule.specs.Reading.{goesOn, InText, nothing}
@@ -56,10 +54,3 @@ module _ (I : Instance) (bs : List ℕ) where
 module _ (b : Shape) (J : Job) (L : Plan) (c : Claim) where
   pub read-spellable : (bs : List ℕ) → readSchedule (instanceFrom b J) bs ≡ read (scheduleFrom b L) c → Spellable (instanceFrom b J) (scheduleFrom b L) c
   read-spellable bs e = read-only (instanceFrom b J) (scheduleFrom b L) c bs e .0
-
-  pub plan-bounds : Spellable (instanceFrom b J) (scheduleFrom b L) c → PlanBounds b L
-  plan-bounds s =
-      record {
-        start = λ i h. omega (arith, s .starts i (omega (arith, task-count b J)) .most, ap (λ r. r .start) (run-at b L i h));
-        moveStart = λ k h. omega (arith, s .moveStarts k (omega (arith, file-count b J)) .most, move-at b L k h);
-      }

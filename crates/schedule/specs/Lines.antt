@@ -1,9 +1,6 @@
--- The code's line, as the rules have it, and what reading a line asks of the board.
-use Rattle.rules.specs.Limits.{processorCounts}
-use Rattle.rules.specs.Promises.{In}
+-- The code's line, as the rules have it.
 use Rattle.rules.specs.Text.{Reading, wrong, right, malformed, outOfRange}
 use Rattle.rules.specs.ScheduleText.{ScheduleLine, runLine, moveLine, claimLine}
-use Rattle.model.specs.declared.layout.Shape.{Shape}
 use Rattle.model.specs.Claims.{asClaim}
 use Rattle.schedule.specs.declared.lines.Line as Code
 use Rattle.schedule.specs.declared.lines.Line.the-variants.{Run, Move, Claim as ClaimIs, Malformed, OutOfRange}
@@ -14,8 +11,3 @@ asReading (Move i j t) = right (moveLine i j t)
 asReading (ClaimIs c) = right (claimLine (asClaim c))
 asReading Malformed = wrong malformed
 asReading OutOfRange = wrong outOfRange
-
--- each colour's processors are few enough to be counted together
-pub record Processors (b : Shape) : Type 0 where
-  pub blue : In processorCounts (b .board .blue .processors)
-  pub red : In processorCounts (b .board .red .processors)

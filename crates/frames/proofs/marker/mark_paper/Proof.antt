@@ -1,8 +1,8 @@
 -- `mark_paper` meets its contract: what is read is judged, what is not is refused.
 use Rattle.model.specs.Layout.{jobOf, planOf, instanceFrom, scheduleFrom}
 use Rattle.model.proofs.LayoutLaws.{job-bounds}
-use Rattle.schedule.proofs.ReadLaws.{read-spellable, plan-bounds}
-use Rattle.validator.proofs.SpelledLaws.{spelled-placed}
+use Rattle.schedule.proofs.ReadLaws.{read-spellable}
+use Rattle.validator.proofs.SpelledLaws.{spelled-placed, spelled-bounds}
 use Rattle.frames.proofs.MarkLaws.{paper-read, paper-judged, paper-refused}
 use borrow.Author.Needs.{needs}
 use Rattle.frames.proofs.marker.mark_paper.Statement.{statement}
@@ -31,7 +31,7 @@ judge-requires c κs =
     let L = planOf (c .before .before .before .before .read .last .1 .1 .1 .0) in
     let r = paper-read (instanceFrom b J) (s .args .paper .now) (scheduleFrom b L) (c .before .before .before .before .read .result) (c .before .before .before .before .read .ensures) (c .before .before .claim .given .1) in
     let p = read-spellable b J L _ (s .args .paper .now) r in
-    (record { job = job-bounds b J (s .pre); plan = plan-bounds b J L _ p }, spelled-placed b J L _ p)
+    (record { job = job-bounds b J (s .pre); plan = spelled-bounds b J L _ p }, spelled-placed b J L _ p)
 
 returns : tie.Need-returns
 returns c =

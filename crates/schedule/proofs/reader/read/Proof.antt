@@ -13,7 +13,7 @@ returns c = read-long _ _ (c .if1 .taken)
 read-runs-requires : tie.Need-read-runs-requires
 read-runs-requires c κs =
     let f = c .before .before .before .pre in
-    (record { blue = f .blueProcessors; red = f .redProcessors }, f .tasks)
+    (f .processors, f .tasks)
 
 enum-known-fault : tie.Need-enum-known-fault
 enum-known-fault c = search needs
@@ -36,7 +36,7 @@ read-claim-requires : tie.Need-read-claim-requires
 read-claim-requires c κs =
     let m = c .before .before .before in
     let f = c .before .before .before .before .before .before .before .before .before .before .before .before .pre in
-    (record { blue = f .blueProcessors; red = f .redProcessors }, in-text _ _ _ _ _ (c .before .at .given .1) (m .read-moves .ensures .1))
+    (f .processors, in-text _ _ _ _ _ (c .before .at .given .1) (m .read-moves .ensures .1))
 
 returns-2 : tie.Need-returns-2
 returns-2 c =

@@ -38,7 +38,7 @@ move-at-requires c κs =
     let l = m .before .before .before in
     let f = l .before .before .pre .0 in
     let h = m .before .if1 .taken in (
-      record { blue = f .blueProcessors; red = f .redProcessors },
+      f .processors,
       (l .loop .inv .within, omega (arith, f .tasks, f .maker (l .loop .i) h, f .reader (l .loop .i) h, m .maker .ensures, c .before .before .before .reader .ensures)),
     )
 
