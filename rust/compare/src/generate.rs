@@ -1,6 +1,6 @@
 //! Board sheets and timetables by chance, from a fixed seed: sound ones, and ones with a fault.
 
-use crate::reference::{finish, write_table, Sheet, Table};
+use crate::reference::{finish, write_table, Sheet, Table, MAX_TEXT};
 
 /// A generator of numbers (SplitMix64).
 pub struct Random(pub u64);
@@ -196,4 +196,11 @@ pub fn noise(r: &mut Random) -> Vec<u8> {
     let pool = b"()\n 0123456789boardtskfilerunmvc#\r\xff";
     let n = r.below(60);
     (0..n).map(|_| if r.one_in(6) { r.next() as u8 } else { pool[r.below(pool.len())] }).collect()
+}
+
+/// A text of about the greatest length, on either side of it.
+pub fn long(r: &mut Random, text: &[u8]) -> Vec<u8> {
+    let mut t = text.to_vec();
+    t.resize(MAX_TEXT - 3 + r.below(12), if r.one_in(2) { b'\n' } else { b'1' });
+    t
 }

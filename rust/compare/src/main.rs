@@ -1,16 +1,17 @@
 //! Compares the proved library with an implementation of document 01 of its own, on sound and damaged texts from a fixed seed.
 //! Prints how often each answer was reached; ends with an error at the first difference, or where an answer was never reached.
 
-mod generate;
-mod reference;
+use compare::generate::{self, Random};
+use compare::reference;
+use frames::{Planner, Verdict};
+use std::collections::{BTreeMap, BTreeSet};
 
-use frames::Planner;
-use generate::Random;
-use std::collections::BTreeMap;
+/// How often each number was answered, and at which places.
+type Seen = BTreeMap<u64, (u64, BTreeSet<u64>)>;
 
 struct Tally {
-    marks: BTreeMap<u64, (u64, std::collections::BTreeSet<u64>)>,
-    plans: BTreeMap<u64, (u64, std::collections::BTreeSet<u64>)>,
+    marks: Seen,
+    plans: Seen,
     cases: u64,
 }
 
@@ -23,8 +24,8 @@ impl Tally {
         self.cases += 1;
         let want = reference::mark(sheet, paper);
         let got = match frames::mark(sheet, paper) {
-            Ok(m) => [0, 0, m.span, m.blue_peak, m.red_peak],
-            Err(r) => [r.number, r.place, 0, 0, 0],
+            Verdict::Accepted { span, blue_peak, red_peak } => [0, 0, span, blue_peak, red_peak],
+            Verdict::Refused(refusal) => [refusal.numbers().0, refusal.numbers().1, 0, 0, 0],
         };
         if got != want || frames::fault_line(sheet, paper) != reference::fault_line(sheet, paper) {
             panic!("mark differs: {got:?}, wanted {want:?}\nsheet:\n{}\npaper:\n{}", show(sheet), show(paper));
@@ -79,7 +80,7 @@ impl Tally {
         paper
     }
 
-    fn print(&self, name: &str, all: &BTreeMap<u64, (u64, std::collections::BTreeSet<u64>)>, due: &[u64]) -> bool {
+    fn print(&self, name: &str, all: &Seen, due: &[u64]) -> bool {
         let mut ok = true;
         for number in due {
             let (count, places) = all.get(number).map_or((0, 0), |s| (s.0, s.1.len()));
@@ -145,6 +146,12 @@ fn main() {
         let noise = generate::noise(&mut r);
         t.mark(&noise, &sheet);
         t.mark(&sheet, &noise);
+        if round % 40 == 0 {
+            let long = generate::long(&mut r, &sheet);
+            t.mark(&long, &sheet);
+            t.mark(&sheet, &long);
+            t.planners(&mut r, &long);
+        }
     }
     for tasks in [8, 24, 32, 48, 64] {
         let sheet = generate::large_sheet(&mut r, tasks).into_bytes();

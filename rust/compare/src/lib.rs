@@ -1,0 +1,4 @@
+//! An independent implementation of document 01, for tests, and texts by chance to compare it on.
+
+pub mod generate;
+pub mod reference;
