@@ -55,7 +55,13 @@ pub fn sheet(r: &mut Random, most: usize) -> String {
         _ => r.between(0, total.max(1)),
     };
     let reds = if r.one_in(9) { 8 } else { 2 };
-    let mut text = format!("(board (blue {} {}) (red {} {}))\n", 1 + r.below(3), limit(r), 1 + r.below(reds), limit(r));
+    let mut text = format!(
+        "(board (blue {} {}) (red {} {}))\n",
+        1 + r.below(3),
+        limit(r),
+        1 + r.below(reds),
+        limit(r)
+    );
     for i in 1..=n {
         text += &format!("(task {i} {} {})\n", r.between(1, time), r.between(1, time));
     }
@@ -68,10 +74,16 @@ pub fn large_sheet(r: &mut Random, tasks: usize) -> String {
     for i in 1..=tasks {
         text += &format!("(task {i} {} {})\n", r.between(1, 1000), r.between(1, 1000));
     }
-    let pairs: Vec<(usize, usize)> = (1..=tasks).flat_map(|i| (i + 1..=tasks).map(move |j| (i, j))).collect();
+    let pairs: Vec<(usize, usize)> = (1..=tasks)
+        .flat_map(|i| (i + 1..=tasks).map(move |j| (i, j)))
+        .collect();
     let skip = pairs.len().div_ceil(256).max(1);
     for (i, j) in pairs.iter().step_by(skip).take(256) {
-        text += &format!("(file {i} {j} {} {})\n", r.between(0, 300), r.between(1, 100));
+        text += &format!(
+            "(file {i} {j} {} {})\n",
+            r.between(0, 300),
+            r.between(1, 100)
+        );
     }
     text
 }
@@ -81,13 +93,21 @@ pub fn table(r: &mut Random, sheet: &Sheet) -> Table {
     let n = sheet.tasks.len();
     let total = sheet.processors[0] + sheet.processors[1];
     let mut last = vec![0; total as usize + 1];
-    let mut t = Table { runs: vec![None; n], moves: vec![0; sheet.files.len()] };
+    let mut t = Table {
+        runs: vec![None; n],
+        moves: vec![0; sheet.files.len()],
+    };
     for i in 0..n {
         let p = r.between(1, total);
         let colour = sheet.colour(p);
         let gap = if r.one_in(3) { r.between(0, 5) } else { 0 };
         let mut start: i64 = last[p as usize] + gap;
-        for (k, f) in sheet.files.iter().enumerate().filter(|(_, f)| f.reader == i) {
+        for (k, f) in sheet
+            .files
+            .iter()
+            .enumerate()
+            .filter(|(_, f)| f.reader == i)
+        {
             let made = finish(sheet, &t, f.maker);
             if sheet.colour(t.runs[f.maker].unwrap().0) != colour {
                 t.moves[k] = made + if r.one_in(3) { r.between(0, 4) } else { 0 };
@@ -119,7 +139,10 @@ pub fn shifted(r: &mut Random, sheet: &Sheet, t: &Table) -> String {
 /// A text with some damage: a byte, a line, or a number of it.
 pub fn damaged(r: &mut Random, text: &[u8]) -> Vec<u8> {
     let mut t = text.to_vec();
-    let mut lines: Vec<Vec<u8>> = text.split_inclusive(|b| *b == b'\n').map(|l| l.to_vec()).collect();
+    let mut lines: Vec<Vec<u8>> = text
+        .split_inclusive(|b| *b == b'\n')
+        .map(|l| l.to_vec())
+        .collect();
     if t.is_empty() {
         return vec![b'\n'];
     }
@@ -140,7 +163,12 @@ pub fn damaged(r: &mut Random, text: &[u8]) -> Vec<u8> {
         }
         3 => {
             let i = r.below(t.len() + 1);
-            t.insert(i, *[b' ', b'\n', b'0', b'9', b'\r', b'('].get(r.below(6)).unwrap());
+            t.insert(
+                i,
+                *[b' ', b'\n', b'0', b'9', b'\r', b'(']
+                    .get(r.below(6))
+                    .unwrap(),
+            );
             return t;
         }
         4 => {
@@ -171,12 +199,22 @@ pub fn damaged(r: &mut Random, text: &[u8]) -> Vec<u8> {
 /// A line with another number in place of one of its numbers.
 fn renumbered(r: &mut Random, line: &[u8]) -> Vec<u8> {
     let text = String::from_utf8_lossy(line).into_owned();
-    let starts: Vec<usize> = text.char_indices().filter(|(i, c)| c.is_ascii_digit() && (*i == 0 || !text.as_bytes()[i - 1].is_ascii_digit())).map(|(i, _)| i).collect();
+    let starts: Vec<usize> = text
+        .char_indices()
+        .filter(|(i, c)| {
+            c.is_ascii_digit() && (*i == 0 || !text.as_bytes()[i - 1].is_ascii_digit())
+        })
+        .map(|(i, _)| i)
+        .collect();
     if starts.is_empty() {
         return line.to_vec();
     }
     let at = starts[r.below(starts.len())];
-    let end = at + text[at..].bytes().take_while(|b| b.is_ascii_digit()).count();
+    let end = at
+        + text[at..]
+            .bytes()
+            .take_while(|b| b.is_ascii_digit())
+            .count();
     let old: i64 = text[at..end].parse().unwrap_or(0);
     let new = match r.below(9) {
         0 => "0".to_string(),
@@ -195,12 +233,23 @@ fn renumbered(r: &mut Random, line: &[u8]) -> Vec<u8> {
 pub fn noise(r: &mut Random) -> Vec<u8> {
     let pool = b"()\n 0123456789boardtskfilerunmvc#\r\xff";
     let n = r.below(60);
-    (0..n).map(|_| if r.one_in(6) { r.next() as u8 } else { pool[r.below(pool.len())] }).collect()
+    (0..n)
+        .map(|_| {
+            if r.one_in(6) {
+                r.next() as u8
+            } else {
+                pool[r.below(pool.len())]
+            }
+        })
+        .collect()
 }
 
 /// A text of about the greatest length, on either side of it.
 pub fn long(r: &mut Random, text: &[u8]) -> Vec<u8> {
     let mut t = text.to_vec();
-    t.resize(MAX_TEXT - 3 + r.below(12), if r.one_in(2) { b'\n' } else { b'1' });
+    t.resize(
+        MAX_TEXT - 3 + r.below(12),
+        if r.one_in(2) { b'\n' } else { b'1' },
+    );
     t
 }

@@ -24,11 +24,19 @@ impl Tally {
         self.cases += 1;
         let want = reference::mark(sheet, paper);
         let got = match frames::mark(sheet, paper) {
-            Verdict::Accepted { span, blue_peak, red_peak } => [0, 0, span, blue_peak, red_peak],
+            Verdict::Accepted {
+                span,
+                blue_peak,
+                red_peak,
+            } => [0, 0, span, blue_peak, red_peak],
             Verdict::Refused(refusal) => [refusal.numbers().0, refusal.numbers().1, 0, 0, 0],
         };
         if got != want || frames::fault_line(sheet, paper) != reference::fault_line(sheet, paper) {
-            panic!("mark differs: {got:?}, wanted {want:?}\nsheet:\n{}\npaper:\n{}", show(sheet), show(paper));
+            panic!(
+                "mark differs: {got:?}, wanted {want:?}\nsheet:\n{}\npaper:\n{}",
+                show(sheet),
+                show(paper)
+            );
         }
         let seen = self.marks.entry(got[0]).or_default();
         seen.0 += 1;
@@ -36,9 +44,19 @@ impl Tally {
     }
 
     /// A planner with a buffer of a length, filled with a pattern; what it wrote, if it succeeded.
-    fn plan(&mut self, heft: bool, sheet: &[u8], want: &reference::Planned, room: usize) -> Option<Vec<u8>> {
+    fn plan(
+        &mut self,
+        heft: bool,
+        sheet: &[u8],
+        want: &reference::Planned,
+        room: usize,
+    ) -> Option<Vec<u8>> {
         self.cases += 1;
-        let planner = if heft { Planner::MemHeft } else { Planner::MemMinMin };
+        let planner = if heft {
+            Planner::MemHeft
+        } else {
+            Planner::MemMinMin
+        };
         let pattern: Vec<u8> = (0..room).map(|i| (i * 7 + 13) as u8).collect();
         let mut out = pattern.clone();
         let got = frames::plan_into(planner, sheet, &mut out);
@@ -48,7 +66,8 @@ impl Tally {
         if number == 0 {
             bytes[..want.text.len()].copy_from_slice(&want.text);
         }
-        if (got.number, got.place, got.trials) != (number, want.place, want.trials) || out != bytes {
+        if (got.number, got.place, got.trials) != (number, want.place, want.trials) || out != bytes
+        {
             panic!(
                 "{planner:?} differs with {room} bytes: {got:?}, wanted {number} {} {}\nsheet:\n{}\nwrote:\n{}\nwanted:\n{}",
                 want.place,
@@ -93,7 +112,8 @@ impl Tally {
 
 fn edges(t: &mut Tally) {
     let course = b"(board (blue 1 6) (red 1 6))\n(task 1 4 2)\n(task 2 3 5)\n(task 3 2 6)\n(file 1 2 2 1)\n(file 1 3 3 2)\n";
-    let paper = b"(run 1 2 0)\n(run 2 1 3)\n(run 3 1 6)\n(move 1 2 2)\n(move 1 3 4)\n(claim 8 5 5)\n";
+    let paper =
+        b"(run 1 2 0)\n(run 2 1 3)\n(run 3 1 6)\n(move 1 2 2)\n(move 1 3 4)\n(claim 8 5 5)\n";
     for n in [32_767, 32_768, 32_769, 70_000] {
         for byte in [b'\n', b'(', 0u8] {
             let long = vec![byte; n];
@@ -116,8 +136,14 @@ fn edges(t: &mut Tally) {
 }
 
 fn main() {
-    let rounds: u64 = std::env::args().nth(1).map_or(4000, |a| a.parse().expect("a number of rounds"));
-    let mut t = Tally { marks: BTreeMap::new(), plans: BTreeMap::new(), cases: 0 };
+    let rounds: u64 = std::env::args()
+        .nth(1)
+        .map_or(4000, |a| a.parse().expect("a number of rounds"));
+    let mut t = Tally {
+        marks: BTreeMap::new(),
+        plans: BTreeMap::new(),
+        cases: 0,
+    };
     edges(&mut t);
     let mut r = Random(20_261_115);
     for round in 0..rounds {
@@ -157,7 +183,11 @@ fn main() {
         let sheet = generate::large_sheet(&mut r, tasks).into_bytes();
         t.planners(&mut r, &sheet);
     }
-    let mut ok = t.print("marker", &t.marks, &[0, 1, 2, 3, 4, 11, 12, 13, 14, 15, 16, 17, 18]);
+    let mut ok = t.print(
+        "marker",
+        &t.marks,
+        &[0, 1, 2, 3, 4, 11, 12, 13, 14, 15, 16, 17, 18],
+    );
     ok &= t.print("planner", &t.plans, &[0, 1, 2, 3, 4, 21, 31]);
     println!("{} cases, no difference", t.cases);
     if !ok {

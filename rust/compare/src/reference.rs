@@ -57,7 +57,11 @@ fn numbers(line: &[u8], words: &str) -> Option<Vec<i64>> {
             let (front, back) = (&w[..hash], &w[hash + 1..]);
             let inner = g.strip_prefix(front)?.strip_suffix(back)?;
             let digits = inner.bytes().all(|b| b.is_ascii_digit());
-            if inner.is_empty() || !digits || inner.len() > 9 || (inner.len() > 1 && inner.starts_with('0')) {
+            if inner.is_empty()
+                || !digits
+                || inner.len() > 9
+                || (inner.len() > 1 && inner.starts_with('0'))
+            {
                 return None;
             }
             all.push(inner.parse().unwrap());
@@ -73,15 +77,28 @@ fn all_in(pairs: &[(i64, i64, i64)]) -> bool {
 }
 
 /// A readable line: which of the three forms, and its numbers.
-fn readable(line: (&[u8], bool), forms: [&str; 3], ranges: impl Fn(usize) -> Vec<(i64, i64)>, base: u64) -> Result<(usize, Vec<i64>), u64> {
+fn readable(
+    line: (&[u8], bool),
+    forms: [&str; 3],
+    ranges: impl Fn(usize) -> Vec<(i64, i64)>,
+    base: u64,
+) -> Result<(usize, Vec<i64>), u64> {
     if !line.1 {
         return Err(base + 2);
     }
     for (kind, form) in forms.iter().enumerate() {
         if let Some(vs) = numbers(line.0, form) {
             let limits = ranges(kind);
-            let pairs: Vec<(i64, i64, i64)> = vs.iter().zip(&limits).map(|(v, (a, b))| (*v, *a, *b)).collect();
-            return if all_in(&pairs) { Ok((kind, vs)) } else { Err(base + 3) };
+            let pairs: Vec<(i64, i64, i64)> = vs
+                .iter()
+                .zip(&limits)
+                .map(|(v, (a, b))| (*v, *a, *b))
+                .collect();
+            return if all_in(&pairs) {
+                Ok((kind, vs))
+            } else {
+                Err(base + 3)
+            };
         }
     }
     Err(base + 2)
@@ -93,7 +110,11 @@ pub fn read_sheet(text: &[u8]) -> Result<Sheet, Refused> {
     if text.len() > MAX_TEXT {
         return Err((1, 0));
     }
-    let forms = ["(board (blue # #) (red # #))", "(task # # #)", "(file # # # #)"];
+    let forms = [
+        "(board (blue # #) (red # #))",
+        "(task # # #)",
+        "(file # # # #)",
+    ];
     let ranges = |kind: usize| match kind {
         0 => vec![(1, 8), (0, BIG), (1, 8), (0, BIG)],
         1 => vec![(1, 64), (1, 1_000_000), (1, 1_000_000)],
@@ -105,12 +126,28 @@ pub fn read_sheet(text: &[u8]) -> Result<Sheet, Refused> {
         let place = at as u64 + 1;
         let (kind, v) = readable(*line, forms, ranges, 0).map_err(|n| (n, place))?;
         match (&mut sheet, kind) {
-            (None, 0) => sheet = Some(Sheet { processors: [v[0], v[2]], limits: [v[1], v[3]], tasks: vec![], files: vec![] }),
-            (Some(s), 1) if s.files.is_empty() && v[0] == s.tasks.len() as i64 + 1 => s.tasks.push([v[1], v[2]]),
+            (None, 0) => {
+                sheet = Some(Sheet {
+                    processors: [v[0], v[2]],
+                    limits: [v[1], v[3]],
+                    tasks: vec![],
+                    files: vec![],
+                })
+            }
+            (Some(s), 1) if s.files.is_empty() && v[0] == s.tasks.len() as i64 + 1 => {
+                s.tasks.push([v[1], v[2]])
+            }
             (Some(s), 2) => {
-                let above = s.files.last().map_or(true, |f| (f.maker as i64 + 1, f.reader as i64 + 1) < (v[0], v[1]));
+                let above = s.files.last().map_or(true, |f| {
+                    (f.maker as i64 + 1, f.reader as i64 + 1) < (v[0], v[1])
+                });
                 if v[0] < v[1] && v[1] <= s.tasks.len() as i64 && above && s.files.len() < 256 {
-                    s.files.push(File { maker: v[0] as usize - 1, reader: v[1] as usize - 1, size: v[2], time: v[3] });
+                    s.files.push(File {
+                        maker: v[0] as usize - 1,
+                        reader: v[1] as usize - 1,
+                        size: v[2],
+                        time: v[3],
+                    });
                 } else {
                     return Err((4, place));
                 }
@@ -126,7 +163,11 @@ pub fn read_sheet(text: &[u8]) -> Result<Sheet, Refused> {
 
 impl Sheet {
     pub fn colour(&self, processor: i64) -> usize {
-        if processor <= self.processors[0] { 0 } else { 1 }
+        if processor <= self.processors[0] {
+            0
+        } else {
+            1
+        }
     }
 }
 
@@ -158,14 +199,18 @@ pub fn read_table(sheet: &Sheet, text: &[u8]) -> Result<(Table, Claim), Refused>
         at += 1;
         Ok(v)
     };
-    let mut table = Table { runs: vec![], moves: vec![] };
+    let mut table = Table {
+        runs: vec![],
+        moves: vec![],
+    };
     for i in 0..sheet.tasks.len() {
         let v = next(&|kind, v| kind == 0 && v[0] == i as i64 + 1)?;
         table.runs.push(Some((v[1], v[2])));
     }
     for f in &sheet.files {
         let t = if moves(sheet, &table, f) {
-            next(&|kind, v| kind == 1 && v[0] == f.maker as i64 + 1 && v[1] == f.reader as i64 + 1)?[2]
+            next(&|kind, v| kind == 1 && v[0] == f.maker as i64 + 1 && v[1] == f.reader as i64 + 1)?
+                [2]
         } else {
             0
         };
@@ -174,9 +219,18 @@ pub fn read_table(sheet: &Sheet, text: &[u8]) -> Result<(Table, Claim), Refused>
     let v = next(&|kind, _| kind == 2)?;
     if all.len() > at {
         let place = at as u64 + 1;
-        return Err((readable(all[at], forms, ranges, 10).err().unwrap_or(14), place));
+        return Err((
+            readable(all[at], forms, ranges, 10).err().unwrap_or(14),
+            place,
+        ));
     }
-    Ok((table, Claim { span: v[0], peaks: [v[1], v[2]] }))
+    Ok((
+        table,
+        Claim {
+            span: v[0],
+            peaks: [v[1], v[2]],
+        },
+    ))
 }
 
 // ---- schedules
@@ -198,7 +252,9 @@ pub fn finish(sheet: &Sheet, table: &Table, i: usize) -> i64 {
 fn holds(sheet: &Sheet, table: &Table, colour: usize) -> Vec<(i64, i64, Option<i64>)> {
     let mut all = vec![];
     for (k, f) in sheet.files.iter().enumerate() {
-        let Some((p, s)) = table.runs[f.maker] else { continue };
+        let Some((p, s)) = table.runs[f.maker] else {
+            continue;
+        };
         let here = sheet.colour(p) == colour;
         match table.runs[f.reader] {
             None if here => all.push((f.size, s, None)),
@@ -247,13 +303,18 @@ pub fn peaks(sheet: &Sheet, table: &Table) -> [i64; 2] {
 }
 
 pub fn span(sheet: &Sheet, table: &Table) -> i64 {
-    (0..sheet.tasks.len()).map(|i| finish(sheet, table, i)).max().unwrap()
+    (0..sheet.tasks.len())
+        .map(|i| finish(sheet, table, i))
+        .max()
+        .unwrap()
 }
 
 /// 15 to 17: the first fault of a complete timetable.
 pub fn fault(sheet: &Sheet, table: &Table) -> Option<Refused> {
     let n = sheet.tasks.len();
-    let mut busy: Vec<(i64, i64, i64, usize)> = (0..n).map(|i| (run(table, i).0, run(table, i).1, finish(sheet, table, i), i)).collect();
+    let mut busy: Vec<(i64, i64, i64, usize)> = (0..n)
+        .map(|i| (run(table, i).0, run(table, i).1, finish(sheet, table, i), i))
+        .collect();
     busy.sort();
     let mut shared = vec![];
     for (at, a) in busy.iter().enumerate() {
@@ -272,7 +333,11 @@ pub fn fault(sheet: &Sheet, table: &Table) -> Option<Refused> {
         let made = finish(sheet, table, f.maker);
         let wanted = run(table, f.reader).1;
         let t = table.moves[k];
-        let ok = if moves(sheet, table, f) { made <= t && t + f.time <= wanted } else { made <= wanted };
+        let ok = if moves(sheet, table, f) {
+            made <= t && t + f.time <= wanted
+        } else {
+            made <= wanted
+        };
         if !ok {
             late.push(f.reader);
         }
@@ -282,7 +347,13 @@ pub fn fault(sheet: &Sheet, table: &Table) -> Option<Refused> {
     }
     let over: Vec<i64> = [0, 1]
         .iter()
-        .flat_map(|c| profile(sheet, table, *c).into_iter().filter(|p| p.1 > sheet.limits[*c]).map(|p| p.0).collect::<Vec<_>>())
+        .flat_map(|c| {
+            profile(sheet, table, *c)
+                .into_iter()
+                .filter(|p| p.1 > sheet.limits[*c])
+                .map(|p| p.0)
+                .collect::<Vec<_>>()
+        })
         .collect();
     over.iter().min().map(|t| (17, *t as u64))
 }
@@ -318,7 +389,9 @@ pub fn fault_line(sheet: &[u8], paper: &[u8]) -> Vec<u8> {
     };
     match m[1] {
         0 => vec![],
-        k => lines(text).get(k as usize - 1).map_or(vec![], |l| l.0.to_vec()),
+        k => lines(text)
+            .get(k as usize - 1)
+            .map_or(vec![], |l| l.0.to_vec()),
     }
 }
 
@@ -334,19 +407,35 @@ struct State<'a> {
 impl State<'_> {
     fn slots(&self, colour: usize) -> std::ops::Range<usize> {
         let blue = self.sheet.processors[0] as usize;
-        if colour == 0 { 0..blue } else { blue..self.last.len() }
+        if colour == 0 {
+            0..blue
+        } else {
+            blue..self.last.len()
+        }
     }
 
     fn inputs(&self, i: usize) -> Vec<(usize, &File)> {
-        self.sheet.files.iter().enumerate().filter(|(_, f)| f.reader == i).collect()
+        self.sheet
+            .files
+            .iter()
+            .enumerate()
+            .filter(|(_, f)| f.reader == i)
+            .collect()
     }
 
     fn ready(&self, i: usize) -> bool {
-        self.table.runs[i].is_none() && self.inputs(i).iter().all(|(_, f)| self.table.runs[f.maker].is_some())
+        self.table.runs[i].is_none()
+            && self
+                .inputs(i)
+                .iter()
+                .all(|(_, f)| self.table.runs[f.maker].is_some())
     }
 
     fn crossing(&self, i: usize, colour: usize) -> Vec<(usize, &File)> {
-        self.inputs(i).into_iter().filter(|(_, f)| self.sheet.colour(run(&self.table, f.maker).0) != colour).collect()
+        self.inputs(i)
+            .into_iter()
+            .filter(|(_, f)| self.sheet.colour(run(&self.table, f.maker).0) != colour)
+            .collect()
     }
 
     /// The first tick from which on the memory always has `need` free.
@@ -366,13 +455,26 @@ impl State<'_> {
         self.trials += 1;
         let crossing = self.crossing(i, colour);
         let moved: i64 = crossing.iter().map(|(_, f)| f.size).sum();
-        let made: i64 = self.sheet.files.iter().filter(|f| f.maker == i).map(|f| f.size).sum();
+        let made: i64 = self
+            .sheet
+            .files
+            .iter()
+            .filter(|f| f.maker == i)
+            .map(|f| f.size)
+            .sum();
         let longest = crossing.iter().map(|(_, f)| f.time).max().unwrap_or(0);
         let processor = self.slots(colour).map(|p| self.last[p]).min().unwrap();
         let arrived = self
             .inputs(i)
             .iter()
-            .map(|(k, f)| finish(self.sheet, &self.table, f.maker) + if crossing.iter().any(|(c, _)| c == k) { f.time } else { 0 })
+            .map(|(k, f)| {
+                finish(self.sheet, &self.table, f.maker)
+                    + if crossing.iter().any(|(c, _)| c == k) {
+                        f.time
+                    } else {
+                        0
+                    }
+            })
             .max()
             .unwrap_or(0);
         let running = self.free_from(colour, moved + made)?;
@@ -382,13 +484,31 @@ impl State<'_> {
 
     /// Both colours: finish, colour and start of the better.
     fn best(&mut self, i: usize) -> Option<(i64, usize, i64)> {
-        [0, 1].iter().filter_map(|c| self.start(i, *c).map(|s| (s + self.sheet.tasks[i][*c], *c, s))).min_by_key(|b| (b.0, b.1))
+        [0, 1]
+            .iter()
+            .filter_map(|c| {
+                self.start(i, *c)
+                    .map(|s| (s + self.sheet.tasks[i][*c], *c, s))
+            })
+            .min_by_key(|b| (b.0, b.1))
     }
 
     fn place(&mut self, i: usize, colour: usize, start: i64) {
-        let latest = self.slots(colour).filter(|p| self.last[*p] <= start).map(|p| self.last[p]).max().unwrap();
-        let slot = self.slots(colour).find(|p| self.last[*p] == latest).unwrap();
-        let starts: Vec<(usize, i64)> = self.crossing(i, colour).iter().map(|(k, f)| (*k, start - f.time)).collect();
+        let latest = self
+            .slots(colour)
+            .filter(|p| self.last[*p] <= start)
+            .map(|p| self.last[p])
+            .max()
+            .unwrap();
+        let slot = self
+            .slots(colour)
+            .find(|p| self.last[*p] == latest)
+            .unwrap();
+        let starts: Vec<(usize, i64)> = self
+            .crossing(i, colour)
+            .iter()
+            .map(|(k, f)| (*k, start - f.time))
+            .collect();
         for (k, t) in starts {
             self.table.moves[k] = t;
         }
@@ -401,7 +521,13 @@ fn weight(sheet: &Sheet, i: usize, known: &mut Vec<Option<i64>>) -> i64 {
     if let Some(w) = known[i] {
         return w;
     }
-    let behind = sheet.files.iter().filter(|f| f.maker == i).map(|f| f.time + weight(sheet, f.reader, known)).max().unwrap_or(0);
+    let behind = sheet
+        .files
+        .iter()
+        .filter(|f| f.maker == i)
+        .map(|f| f.time + weight(sheet, f.reader, known))
+        .max()
+        .unwrap_or(0);
     let w = sheet.tasks[i][0] + sheet.tasks[i][1] + behind;
     known[i] = Some(w);
     w
@@ -416,7 +542,12 @@ pub struct Planned {
 
 /// A planner on a sheet: MemHEFT, or MemMinMin. 31 is left to the caller.
 pub fn plan(heft: bool, text: &[u8]) -> Planned {
-    let refused = |r: Refused, trials| Planned { number: r.0, place: r.1, trials, text: vec![] };
+    let refused = |r: Refused, trials| Planned {
+        number: r.0,
+        place: r.1,
+        trials,
+        text: vec![],
+    };
     let sheet = match read_sheet(text) {
         Ok(s) => s,
         Err(r) => return refused(r, 0),
@@ -427,7 +558,10 @@ pub fn plan(heft: bool, text: &[u8]) -> Planned {
     list.sort_by_key(|i| std::cmp::Reverse(weight(&sheet, *i, &mut known)));
     let mut s = State {
         sheet: &sheet,
-        table: Table { runs: vec![None; n], moves: vec![0; sheet.files.len()] },
+        table: Table {
+            runs: vec![None; n],
+            moves: vec![0; sheet.files.len()],
+        },
         last: vec![0; (sheet.processors[0] + sheet.processors[1]) as usize],
         trials: 0,
     };
@@ -457,7 +591,12 @@ pub fn plan(heft: bool, text: &[u8]) -> Planned {
         }
     }
     let text = write_table(&sheet, &s.table).into_bytes();
-    Planned { number: 0, place: text.len() as u64, trials: s.trials, text }
+    Planned {
+        number: 0,
+        place: text.len() as u64,
+        trials: s.trials,
+        text,
+    }
 }
 
 /// The due lines of a complete timetable, with its true claim.
@@ -469,7 +608,12 @@ pub fn write_table(sheet: &Sheet, table: &Table) -> String {
     }
     for (k, f) in sheet.files.iter().enumerate() {
         if moves(sheet, table, f) {
-            text += &format!("(move {} {} {})\n", f.maker + 1, f.reader + 1, table.moves[k]);
+            text += &format!(
+                "(move {} {} {})\n",
+                f.maker + 1,
+                f.reader + 1,
+                table.moves[k]
+            );
         }
     }
     let [b, r] = peaks(sheet, table);

@@ -7,7 +7,11 @@ fn main() {
         Ok(plan) => {
             print!("{}", String::from_utf8_lossy(&plan.timetable));
             match mark(sheet, &plan.timetable) {
-                Verdict::Accepted { span, blue_peak, red_peak } => println!("accepted: span {span}, peaks {blue_peak} and {red_peak}"),
+                Verdict::Accepted {
+                    span,
+                    blue_peak,
+                    red_peak,
+                } => println!("accepted: span {span}, peaks {blue_peak} and {red_peak}"),
                 Verdict::Refused(refusal) => println!("refused: {refusal}"),
             }
         }

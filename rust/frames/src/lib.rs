@@ -17,7 +17,13 @@ mod refusal;
 pub use refusal::Refusal;
 
 extern "C" {
-    fn frames_mark(sheet: *const u8, sheet_len: usize, paper: *const u8, paper_len: usize, result: *mut [u64; 5]);
+    fn frames_mark(
+        sheet: *const u8,
+        sheet_len: usize,
+        paper: *const u8,
+        paper_len: usize,
+        result: *mut [u64; 5],
+    );
     fn frames_fault_line(
         sheet: *const u8,
         sheet_len: usize,
@@ -26,8 +32,20 @@ extern "C" {
         line: *mut u8,
         line_len: usize,
     ) -> usize;
-    fn frames_mem_heft(sheet: *const u8, sheet_len: usize, out: *mut u8, out_len: usize, result: *mut [u64; 3]);
-    fn frames_mem_min_min(sheet: *const u8, sheet_len: usize, out: *mut u8, out_len: usize, result: *mut [u64; 3]);
+    fn frames_mem_heft(
+        sheet: *const u8,
+        sheet_len: usize,
+        out: *mut u8,
+        out_len: usize,
+        result: *mut [u64; 3],
+    );
+    fn frames_mem_min_min(
+        sheet: *const u8,
+        sheet_len: usize,
+        out: *mut u8,
+        out_len: usize,
+        result: *mut [u64; 3],
+    );
 }
 
 /// The longest text that is read, in bytes; no timetable of a planner is longer.
@@ -37,16 +55,32 @@ pub const MAX_TEXT: usize = 32_768;
 #[derive(Clone, Copy, Debug, PartialEq, Eq)]
 pub enum Verdict {
     /// The timetable is valid; these are its span and peaks.
-    Accepted { span: u64, blue_peak: u64, red_peak: u64 },
+    Accepted {
+        span: u64,
+        blue_peak: u64,
+        red_peak: u64,
+    },
     Refused(Refusal),
 }
 
 /// Marks a timetable on a board sheet.
 pub fn mark(sheet: &[u8], paper: &[u8]) -> Verdict {
     let mut r = [0u64; 5];
-    unsafe { frames_mark(sheet.as_ptr(), sheet.len(), paper.as_ptr(), paper.len(), &mut r) }
+    unsafe {
+        frames_mark(
+            sheet.as_ptr(),
+            sheet.len(),
+            paper.as_ptr(),
+            paper.len(),
+            &mut r,
+        )
+    }
     match Refusal::from_numbers(r[0], r[1]) {
-        None => Verdict::Accepted { span: r[2], blue_peak: r[3], red_peak: r[4] },
+        None => Verdict::Accepted {
+            span: r[2],
+            blue_peak: r[3],
+            red_peak: r[4],
+        },
         Some(refusal) => Verdict::Refused(refusal),
     }
 }
@@ -56,7 +90,14 @@ pub fn mark(sheet: &[u8], paper: &[u8]) -> Verdict {
 pub fn fault_line(sheet: &[u8], paper: &[u8]) -> Vec<u8> {
     let mut line = vec![0u8; MAX_TEXT];
     let n = unsafe {
-        frames_fault_line(sheet.as_ptr(), sheet.len(), paper.as_ptr(), paper.len(), line.as_mut_ptr(), line.len())
+        frames_fault_line(
+            sheet.as_ptr(),
+            sheet.len(),
+            paper.as_ptr(),
+            paper.len(),
+            line.as_mut_ptr(),
+            line.len(),
+        )
     };
     line.truncate(n);
     line
@@ -84,8 +125,20 @@ pub fn plan_into(planner: Planner, sheet: &[u8], out: &mut [u8]) -> Answer {
         Planner::MemHeft => frames_mem_heft,
         Planner::MemMinMin => frames_mem_min_min,
     };
-    unsafe { call(sheet.as_ptr(), sheet.len(), out.as_mut_ptr(), out.len(), &mut r) }
-    Answer { number: r[0], place: r[1], trials: r[2] }
+    unsafe {
+        call(
+            sheet.as_ptr(),
+            sheet.len(),
+            out.as_mut_ptr(),
+            out.len(),
+            &mut r,
+        )
+    }
+    Answer {
+        number: r[0],
+        place: r[1],
+        trials: r[2],
+    }
 }
 
 /// A planner's timetable, and the trials that it made: a task on a colour counts one.
@@ -102,7 +155,10 @@ pub fn plan(planner: Planner, sheet: &[u8]) -> Result<Plan, Refusal> {
     match Refusal::from_numbers(a.number, a.place) {
         None => {
             out.truncate(a.place as usize);
-            Ok(Plan { timetable: out, trials: a.trials })
+            Ok(Plan {
+                timetable: out,
+                trials: a.trials,
+            })
         }
         Some(refusal) => Err(refusal),
     }

@@ -25,11 +25,19 @@ fn main() {
     println!("|---|---|---|---|---|");
     for tasks in [8, 32, 64] {
         let sheet = large_sheet(&mut r, tasks).into_bytes();
-        let files = reference::read_sheet(&sheet).expect("a sound sheet").files.len();
-        let row = |what: &str, ours: f64, theirs: f64| println!("| {tasks} | {files} | {what} | {ours:.0} | {theirs:.0} |");
+        let files = reference::read_sheet(&sheet)
+            .expect("a sound sheet")
+            .files
+            .len();
+        let row = |what: &str, ours: f64, theirs: f64| {
+            println!("| {tasks} | {files} | {what} | {ours:.0} | {theirs:.0} |")
+        };
         let mut out = vec![0u8; reference::MAX_TEXT];
         let mut paper = vec![];
-        for (name, planner, heft) in [("MemHEFT", Planner::MemHeft, true), ("MemMinMin", Planner::MemMinMin, false)] {
+        for (name, planner, heft) in [
+            ("MemHEFT", Planner::MemHeft, true),
+            ("MemMinMin", Planner::MemMinMin, false),
+        ] {
             let a = frames::plan_into(planner, &sheet, &mut out);
             assert_eq!(a.number, 0, "the sheet is planned");
             paper = out[..a.place as usize].to_vec();
@@ -44,9 +52,16 @@ fn main() {
         let read = median(|| {
             frames::mark(&sheet, b"");
         });
-        row("sheet read", read, median(|| drop(reference::read_sheet(&sheet))));
+        row(
+            "sheet read",
+            read,
+            median(|| drop(reference::read_sheet(&sheet))),
+        );
         let ours = median(|| {
-            assert!(matches!(frames::mark(&sheet, &paper), Verdict::Accepted { .. }));
+            assert!(matches!(
+                frames::mark(&sheet, &paper),
+                Verdict::Accepted { .. }
+            ));
         });
         let theirs = median(|| {
             reference::mark(&sheet, &paper);
