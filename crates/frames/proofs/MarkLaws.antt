@@ -1,12 +1,12 @@
--- The marker's answer, by what was read of the two texts, and the line at fault.
+-- The marker's answer, by what was read of the board sheet, and the line at fault.
 use Prim.Native.Nat.{ℕ}
 use mathlib.Core.Bool.{Bool, true, false}
 use mathlib.Core.List.{List, []}
-use mathlib.Core.Path.{_≡_, refl, sym, ap, _∙_}
+use mathlib.Core.Path.{_≡_, refl, sym, _∙_}
 use Rattle.rules.specs.Limits.{inRange}
-use Rattle.rules.specs.Model.{Instance, Schedule}
-use Rattle.rules.specs.Validity.{refusedBy, judge, Verdict}
-use Rattle.rules.specs.Text.{inSheet, inTimetable, faultNumber}
+use Rattle.rules.specs.Model.{Instance}
+use Rattle.rules.specs.Validity.{refusedBy, Verdict}
+use Rattle.rules.specs.Text.{inSheet, faultNumber}
 use Rattle.rules.specs.InstanceText as Sheet
 use Rattle.rules.specs.InstanceText.{readInstance}
 use Rattle.rules.specs.ScheduleText as Paper
@@ -14,34 +14,15 @@ use Rattle.rules.specs.ScheduleText.{readSchedule}
 use Rattle.rules.specs.Calls.{mark, lineAt, faultLine}
 use Rattle.text.specs.declared.faults.Fault.{Fault}
 use Rattle.text.specs.Faults.{asFault}
-use Rattle.model.specs.declared.claim.Claim.{Claim}
 use Rattle.model.specs.declared.layout.Shape.{Shape}
-use Rattle.model.specs.Claims.{asClaim}
 use Rattle.model.specs.Layout.{jobOf, instanceFrom}
 use Rattle.instance.specs.declared.sheet.InstanceRead.{InstanceRead}
 use Rattle.instance.specs.declared.sheet.InstanceRead.the-variants as SheetRead
 use Rattle.instance.specs.Reads.{asRead as asInstance}
 use Rattle.instance.proofs.AcceptedLaws.{read-accepted, read-refused}
-use Rattle.schedule.specs.declared.reader.ScheduleRead.{ScheduleRead}
-use Rattle.schedule.specs.declared.reader.ScheduleRead.the-variants as PaperRead
-use Rattle.schedule.specs.Reading.{asRead as asSchedule}
-use Rattle.frames.specs.Marking.{markRead, markOn}
+use Rattle.marking.specs.Marking.{markOn}
 
--- ---- the timetable
-
-module _ (I : Instance) (timetable : List ℕ) (P : Schedule) (r : ScheduleRead) (read : asSchedule P r ≡ readSchedule I timetable) where
-  pub paper-read : {c : Claim} → r ≡ PaperRead.Read c → readSchedule I timetable ≡ Paper.read P (asClaim c)
-  paper-read e = sym read ∙ rw e
-
-  pub paper-judged : {c : Claim} {v : Verdict} → r ≡ PaperRead.Read c → v ≡ judge I P (asClaim c) → v ≡ markOn I timetable
-  paper-judged e q = q ∙ sym (ap (markRead I) (paper-read e))
-
-  pub paper-refused : {f : Fault} {k n : ℕ} {v : Verdict} → r ≡ PaperRead.Refused f k → n ≡ faultNumber inTimetable (asFault f) → v ≡ refusedBy n k → v ≡ markOn I timetable
-  paper-refused {f} {k} e p q =
-      let u : readSchedule I timetable ≡ Paper.refused (asFault f) k = sym read ∙ rw e in
-      q ∙ rw p (sym (ap (markRead I) u))
-
--- ---- the board sheet
+-- ---- the answer
 
 mark-refused : (sheet timetable : List ℕ) {w : _} (k : ℕ) → readInstance sheet ≡ Sheet.refused w k → mark sheet timetable ≡ refusedBy (faultNumber inSheet w) k
 unfolding mark

@@ -1,54 +1,26 @@
--- A planner's answer, by what was read and what was made.
-use Prim.Native.Nat.{ℕ, _≤_, _<_}
+-- A planner's answer, by what was read of the board sheet.
+use Prim.Native.Nat.{ℕ}
 use mathlib.Core.List.{List}
 use mathlib.Core.Path.{_≡_, refl, sym, ap, _∙_}
-use lib.ListN.{length}
-use borrow.Author.Tests.{le-leb, lt-leb}
-use Rattle.rules.specs.Model.{Instance, Schedule}
+use Rattle.rules.specs.Model.{Instance}
 use Rattle.rules.specs.Text.{inSheet, faultNumber}
 use Rattle.rules.specs.InstanceText as Sheet
 use Rattle.rules.specs.InstanceText.{readInstance}
 use Rattle.rules.specs.Scheduling as Rules
 use Rattle.rules.specs.Scheduling.{Planner, outcome}
-use Rattle.rules.specs.Calls.{written, plan}
+use Rattle.rules.specs.Calls.{plan}
 use Rattle.rules.specs.Calls as Calls
 use Rattle.rules.proofs.PlannerLaws.{plan-refused, plan-stuck, plan-complete}
 use Rattle.text.specs.declared.faults.Fault.{Fault}
 use Rattle.text.specs.Faults.{asFault}
-use Rattle.text.specs.Wrote.{Wrote}
 use Rattle.model.specs.declared.layout.Shape.{Shape}
 use Rattle.model.specs.Layout.{jobOf, instanceFrom}
 use Rattle.instance.specs.declared.sheet.InstanceRead.{InstanceRead}
 use Rattle.instance.specs.declared.sheet.InstanceRead.the-variants as SheetRead
 use Rattle.instance.specs.Reads.{asRead}
 use Rattle.instance.proofs.AcceptedLaws.{read-accepted, read-refused}
-use Rattle.planner.specs.declared.Outcome.{Outcome}
-use Rattle.planner.specs.declared.Outcome.the-variants as Made
-use Rattle.planner.specs.Outcomes.{asOutcome}
-use Rattle.frames.specs.Planning.{planMade, planOn}
-
--- ---- the text fits, or not
-
-abbrev answer : ℕ → ℕ → ℕ → List ℕ → Calls.Answer
-answer number place trials buffer = record { number = number; place = place; trials = trials; buffer = buffer }
-
-module _ (text old : List ℕ) (trials : ℕ) {size : ℕ} (sized : size ≡ length text) where
-  pub too-short : length old < size → answer 31 size trials old ≡ written text old trials
-  too-short h = rw (lt-leb (length text) (length old) (rw sized at h), sized)
-
-  pub long-enough : (r : ℕ) (new : List ℕ) → size ≤ length old → Wrote text r old new → answer 0 r trials new ≡ written text old trials
-  long-enough r new h w = rw (le-leb (length text) (length old) (rw sized at h), w .count, w .bytes)
-
--- ---- the outcome
-
-module _ (R : Planner) (I : Instance) (buffer : List ℕ) (P : Schedule) (r : Outcome) (made : asOutcome r P ≡ outcome R I) where
-  pub made-stuck : {k trials : ℕ} → r ≡ Made.Stuck k trials → answer 21 k trials buffer ≡ planOn R I buffer
-  made-stuck {k} {trials} e = let o : outcome R I ≡ Rules.stuck k trials = sym made ∙ rw e in sym (ap (planMade I buffer) o)
-
-  pub made-complete : {trials : ℕ} → r ≡ Made.Complete trials → outcome R I ≡ Rules.complete P trials
-  made-complete e = sym made ∙ rw e
-
--- ---- the board sheet
+use Rattle.planning.specs.Planning.{planMade, planOn}
+use Rattle.planning.proofs.AnswerLaws.{answer}
 
 plan-on : (R : Planner) (sheet buffer : List ℕ) (I : Instance) → readInstance sheet ≡ Sheet.accepted I → plan R sheet buffer ≡ planOn R I buffer
 plan-on R sheet buffer I e = by-outcome (outcome R I) refl

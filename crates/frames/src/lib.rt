@@ -5,6 +5,6 @@ mod planners;
 
 pub use marker::fault_line;
 pub use marker::mark;
-pub use planners::Answer;
 pub use planners::mem_heft;
 pub use planners::mem_min_min;
+pub use planning::Answer;

@@ -1,32 +1,13 @@
 // The marker: a timetable marked on a board sheet, and the line at fault.
 ghost use mathlib.Core.Path.{_≡_};
 ghost use Rattle.rules.specs.Calls.{mark as rules-mark, faultLine};
-ghost use Rattle.rules.specs.Promises.{WellFormed};
-ghost use Rattle.model.specs.Layout.{jobOf, instanceFrom};
 ghost use Rattle.validator.specs.Answer.{asVerdict};
 ghost use Rattle.frames.specs.Demands.{MarkedOrRefused, MarkedExactly};
-ghost use Rattle.frames.specs.Marking.{markOn};
 use instance::InstanceRead;
+use marking::mark_paper;
 use model::layout;
-use model::layout::Shape;
 use rules::between;
-use schedule::ScheduleRead;
 use validator::judgement::Verdict;
-use validator::judgement::judge;
-
-// A timetable marked on an accepted board sheet.
-fn mark_paper<'a>(shape: Shape, job: &'a [u64; layout::JOB], paper: &'a [u8]) -> Verdict
-    requires { ⌜ WellFormed (instanceFrom shape (jobOf (now job))) ⌝ }
-    ensures { λ r. ⌜ asVerdict r ≡ markOn (instanceFrom shape (jobOf (now (job .entry)))) (now (paper .entry)) ⌝ }
-{
-    let mut plan = [0; layout::PLAN];
-    match schedule::read(shape, job, paper, &mut plan) {
-        ScheduleRead::Refused(fault, line) => {
-            Verdict::refused(text::timetable_number(fault), line)
-        }
-        ScheduleRead::Read(claim) => judge(shape, job, &plan, claim),
-    }
-}
 
 // Marks a timetable on a board sheet: number, place, span and peaks.
 pub fn mark<'a>(sheet: &'a [u8], paper: &'a [u8]) -> Verdict

@@ -3,10 +3,10 @@ use Rattle.model.specs.Layout.{jobOf, planOf, instanceFrom, scheduleFrom}
 use Rattle.model.proofs.LayoutLaws.{job-bounds}
 use Rattle.schedule.proofs.ReadLaws.{read-spellable}
 use Rattle.validator.proofs.SpelledLaws.{spelled-placed, spelled-bounds}
-use Rattle.frames.proofs.MarkLaws.{paper-read, paper-judged, paper-refused}
+use Rattle.marking.proofs.PaperLaws.{paper-read, paper-judged, paper-refused}
 use borrow.Author.Needs.{needs}
-use Rattle.frames.proofs.marker.mark_paper.Statement.{statement}
-use Rattle.frames.proofs.marker.mark_paper.Tie as tie
+use Rattle.marking.proofs.mark_paper.Statement.{statement}
+use Rattle.marking.proofs.mark_paper.Tie as tie
 
 read-requires : tie.Need-read-requires
 read-requires c κs = let s = c .before .before in job-bounds (s .args .shape) (jobOf (s .args .job .now)) (s .pre)

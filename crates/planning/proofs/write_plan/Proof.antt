@@ -6,10 +6,10 @@ use Rattle.text.specs.Wrote.{Wrote}
 use Rattle.rules.specs.ScheduleText.{scheduleText}
 use Rattle.rules.specs.Validity.{trueClaim}
 use Rattle.model.specs.Layout.{jobOf, planOf, instanceFrom, scheduleFrom}
-use Rattle.frames.proofs.PlanLaws.{too-short, long-enough}
+use Rattle.planning.proofs.AnswerLaws.{too-short, long-enough}
 use borrow.Author.Needs.{needs}
-use Rattle.frames.proofs.planners.write_plan.Statement.{statement}
-use Rattle.frames.proofs.planners.write_plan.Tie as tie
+use Rattle.planning.proofs.write_plan.Statement.{statement}
+use Rattle.planning.proofs.write_plan.Tie as tie
 
 true-claim-requires : tie.Need-true-claim-requires
 true-claim-requires c κs = search needs

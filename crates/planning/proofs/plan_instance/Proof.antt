@@ -5,11 +5,11 @@ use Rattle.model.specs.Layout.{jobOf, planOf, instanceFrom, scheduleFrom}
 use Rattle.model.proofs.LayoutLaws.{job-bounds}
 use Rattle.validator.proofs.SpelledLaws.{spelled-placed, spelled-bounds}
 use Rattle.planner.specs.Outcomes.{asPlanner}
-use Rattle.frames.specs.Planning.{planMade}
-use Rattle.frames.proofs.PlanLaws.{made-stuck, made-complete}
+use Rattle.planning.specs.Planning.{planMade}
+use Rattle.planning.proofs.AnswerLaws.{made-stuck, made-complete}
 use borrow.Author.Needs.{needs}
-use Rattle.frames.proofs.planners.plan_instance.Statement.{statement}
-use Rattle.frames.proofs.planners.plan_instance.Tie as tie
+use Rattle.planning.proofs.plan_instance.Statement.{statement}
+use Rattle.planning.proofs.plan_instance.Tie as tie
 
 run-requires : tie.Need-run-requires
 run-requires c κs = (c .before .before .pre, refl)

@@ -7,7 +7,7 @@ use Rattle.rules.specs.Scheduling.{Planner, Outcome, complete, stuck, outcome}
 use Rattle.rules.specs.ScheduleText.{scheduleText}
 use Rattle.rules.specs.Calls as Rules
 use Rattle.rules.specs.Calls.{written}
-use Rattle.frames.specs.declared.planners.Answer.{Answer}
+use Rattle.planning.specs.declared.Answer.{Answer}
 
 -- an answer, with the bytes that the lent buffer then holds
 abbrev pub asAnswer : Answer → List ℕ → Rules.Answer

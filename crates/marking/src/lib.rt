@@ -1,0 +1,25 @@
+// A timetable marked on an instance: read, and judged if it can be.
+ghost use mathlib.Core.Path.{_≡_};
+ghost use Rattle.rules.specs.Promises.{WellFormed};
+ghost use Rattle.model.specs.Layout.{jobOf, instanceFrom};
+ghost use Rattle.validator.specs.Answer.{asVerdict};
+ghost use Rattle.marking.specs.Marking.{markOn};
+use model::layout;
+use model::layout::Shape;
+use schedule::ScheduleRead;
+use validator::judgement::Verdict;
+use validator::judgement::judge;
+
+// Marks a timetable on the instance of an accepted board sheet.
+pub fn mark_paper<'a>(shape: Shape, job: &'a [u64; layout::JOB], paper: &'a [u8]) -> Verdict
+    requires { ⌜ WellFormed (instanceFrom shape (jobOf (now job))) ⌝ }
+    ensures { λ r. ⌜ asVerdict r ≡ markOn (instanceFrom shape (jobOf (now (job .entry)))) (now (paper .entry)) ⌝ }
+{
+    let mut plan = [0; layout::PLAN];
+    match schedule::read(shape, job, paper, &mut plan) {
+        ScheduleRead::Refused(fault, line) => {
+            Verdict::refused(text::timetable_number(fault), line)
+        }
+        ScheduleRead::Read(claim) => judge(shape, job, &plan, claim),
+    }
+}
