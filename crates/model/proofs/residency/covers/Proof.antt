@@ -1,3 +1,4 @@
+-- `covers` meets its contract, by the cases of a hold.
 use Rattle.model.proofs.HoldCases.{covers-in, covers-out, covers-since}
 use borrow.Author.Needs.{needs}
 use Rattle.model.proofs.residency.covers.Statement.{statement}

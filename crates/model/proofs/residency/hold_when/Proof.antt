@@ -1,3 +1,4 @@
+-- `hold_when` meets its contract: each return by the tests that led there.
 use borrow.Author.Needs.{needs}
 use Rattle.model.proofs.residency.hold_when.Statement.{statement}
 use Rattle.model.proofs.residency.hold_when.Tie as tie

@@ -1,3 +1,4 @@
+-- `same` meets its contract, by the first colour.
 use Rattle.model.proofs.HoldCases.{same-true, same-false}
 use Rattle.model.proofs.residency.same.Statement.{statement}
 use Rattle.model.proofs.residency.same.Tie as tie

@@ -1,3 +1,4 @@
+-- `settles` meets its contract, by the cases of a hold.
 use Rattle.model.proofs.HoldCases.{settles-during}
 use borrow.Author.Needs.{needs}
 use Rattle.model.proofs.residency.settles.Statement.{statement}
