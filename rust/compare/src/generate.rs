@@ -77,8 +77,9 @@ pub fn large_sheet(r: &mut Random, tasks: usize) -> String {
     let pairs: Vec<(usize, usize)> = (1..=tasks)
         .flat_map(|i| (i + 1..=tasks).map(move |j| (i, j)))
         .collect();
-    let skip = pairs.len().div_ceil(256).max(1);
-    for (i, j) in pairs.iter().step_by(skip).take(256) {
+    let count = pairs.len().min(256);
+    for k in 0..count {
+        let (i, j) = pairs[k * pairs.len() / count];
         text += &format!(
             "(file {i} {j} {} {})\n",
             r.between(0, 300),
