@@ -8,7 +8,8 @@ use Rattle.rules.specs.Calls.{Answer, mark, plan}
 use Rattle.rules.proofs.MarkerLaws.{markerEnds, markerExact}
 use Rattle.rules.proofs.PlannerLaws.{plannerEnds, plannerExact, readBack, ampleMemory, plan-trials}
 use Rattle.rules.proofs.TrialLaws.{trialBound}
-use Rattle.frames.specs.Demands.{MarkedOrRefused, MarkedExactly, Planned}
+use Rattle.rules.specs.Promises.{MarkedOrRefused, MarkedExactly}
+use Rattle.frames.specs.Demands.{Planned}
 
 pub marked-ends : (sheet timetable : List ℕ) {v : Verdict} → v ≡ mark sheet timetable → MarkedOrRefused v
 marked-ends sheet timetable e = rw e (markerEnds sheet timetable)

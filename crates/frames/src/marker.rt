@@ -2,7 +2,7 @@
 ghost use mathlib.Core.Path.{_≡_};
 ghost use Rattle.rules.specs.Calls.{mark as rules-mark, faultLine};
 ghost use Rattle.validator.specs.Answer.{asVerdict};
-ghost use Rattle.frames.specs.Demands.{MarkedOrRefused, MarkedExactly};
+ghost use Rattle.rules.specs.Promises.{MarkedOrRefused, MarkedExactly};
 use instance::InstanceRead;
 use marking::mark_paper;
 use model::layout;
