@@ -12,9 +12,9 @@ use denote.Enum.Declared.{tagOf}
 use lib.Dec.{leb, ltb, eqb}
 use lib.ListN.{length}
 use Rattle.rules.specs.Limits.{maxTasks, maxFiles}
-use Rattle.rules.specs.Model.{Task, File, Instance, fileCount, taskCount}
+use Rattle.rules.specs.Model.{Task, Instance, fileCount, taskCount}
 use Rattle.rules.specs.Count.{listBelow}
-use Rattle.rules.specs.Text.{Reading, wrong, right, undue, orUndue, due, faultOf}
+use Rattle.rules.specs.Text.{wrong, right, undue, orUndue, due, faultOf}
 use Rattle.rules.specs.BoardType.{sideFrom}
 use Rattle.rules.specs.InstanceText.{taskLine, fileLine, ascends, fileAllowed, withBoard, withLine}
 use Rattle.rules.specs.declared.Board.{Board}

@@ -1,7 +1,7 @@
 -- The instance made of a job array after one task or one file more was stored in it: a store changes one number of the
 -- array, and so one field of one task or file.
-use Prim.Native.Nat.{ℕ, zero, suc, _+_, _*_, _≤_, _<_}
-use mathlib.Core.Path.{_≡_, refl, ap₂, _∙_}
+use Prim.Native.Nat.{ℕ, _+_, _*_, _≤_, _<_}
+use mathlib.Core.Path.{_≡_, ap₂, _∙_}
 use mathlib.Core.Logic.{_≢_}
 use mathlib.Core.List.{List, [], _∷_, _++_}
 use native.Mathlib.Omega.{arith}
@@ -13,23 +13,19 @@ use Rattle.rules.specs.Limits.{maxTasks, maxFiles}
 use Rattle.rules.specs.Model.{Task, File, Instance}
 use Rattle.rules.specs.BoardType.{sideFrom}
 use Rattle.rules.specs.InstanceText.{withTask, withFile}
+use Rattle.rules.proofs.CountLaws.{list-cong}
 use Rattle.model.specs.Layout.{Job, jobOf, taskFrom, fileFrom, instanceFrom}
 use Rattle.model.specs.declared.layout.Shape.{Shape}
 use Rattle.instance.specs.Steps.{jobLength}
 
 -- ---- lists by index
 module _ {A : Type 0} where
-  list-same : (n : ℕ) (f g : ℕ → A) → ((k : ℕ) → k < n → f k ≡ g k) → listBelow n f ≡ listBelow n g
-  unfolding listBelow
-  list-same zero f g h = refl
-  list-same (suc n) f g h = ap₂ (λ (l : List A) (a : A). l ++ (a ∷ [])) (list-same n f g (λ k l. h k (omega arith))) (h n (omega arith))
-
   list-next : (n : ℕ) (f g : ℕ → A) (a : A) → ((k : ℕ) → k < n → f k ≡ g k) → f n ≡ a → listBelow (n + 1) f ≡ listBelow n g ++ (a ∷ [])
   unfolding listBelow
-  list-next n f g a h e = rw (add-one n) (ap₂ (λ (l : List A) (x : A). l ++ (x ∷ [])) (list-same n f g h) e)
+  list-next n f g a h e = rw (add-one n) (ap₂ (λ (l : List A) (x : A). l ++ (x ∷ [])) (list-cong n f g h) e)
 
   list-none : (n : ℕ) (f g : ℕ → A) → n ≡ 0 → listBelow 0 f ≡ listBelow n g
-  list-none n f g e = rw e (list-same 0 f g (λ k l. absurd (omega arith)))
+  list-none n f g e = rw e (list-cong 0 f g (λ k l. absurd (omega arith)))
 
 -- ---- the instance, from what changed of the job
 module _ (b : Shape) (J K : Job) where
@@ -44,7 +40,7 @@ module _ (b : Shape) (J K : Job) where
   file-added : (f : File) → ((i : ℕ) → i < b .tasks → taskFrom K i ≡ taskFrom J i) → ((k : ℕ) → k < b .files → fileFrom K k ≡ fileFrom J k) → fileFrom K (b .files) ≡ f
       → instanceFrom (record { tasks = b .tasks; files = b .files + 1; board = b .board }) K ≡ withFile (instanceFrom b J) f
   unfolding instanceFrom with-parts
-  file-added f tasks same last = ap₂ with-parts (list-same (b .tasks) (taskFrom K) (taskFrom J) tasks) (list-next (b .files) (fileFrom K) (fileFrom J) f same last)
+  file-added f tasks same last = ap₂ with-parts (list-cong (b .tasks) (taskFrom K) (taskFrom J) tasks) (list-next (b .files) (fileFrom K) (fileFrom J) f same last)
 
 -- ---- stores
 task-is : (J : Job) (i : ℕ) {a b : ℕ} → J .onBlue i ≡ a → J .onRed i ≡ b → taskFrom J i ≡ record { onBlue = a; onRed = b }

@@ -1,5 +1,5 @@
 -- What the plan holds after a store: the runs and the moves read so far, and one more.
-use Prim.Native.Nat.{ℕ, zero, suc, _+_, _*_, _≤_, _<_}
+use Prim.Native.Nat.{ℕ, suc, _+_, _*_, _≤_, _<_}
 use mathlib.Core.Path.{_≡_, refl, ap, ap₂, _∙_}
 use mathlib.Core.List.{List, [], _∷_, _++_}
 use native.Mathlib.Omega.{arith}
@@ -9,6 +9,7 @@ use Rattle.rules.specs.Count.{listBelow}
 use Rattle.rules.specs.Limits.{maxTasks, maxFiles}
 use Rattle.rules.specs.Model.{Run, Schedule}
 use Rattle.rules.specs.ScheduleText.{withRun, withMove}
+use Rattle.rules.proofs.CountLaws.{list-cong}
 use Rattle.model.specs.Layout.{Plan, planOf, runFrom}
 use Rattle.schedule.specs.Reading.{runsOf}
 
@@ -18,14 +19,9 @@ module _ {A : Type 0} where
   unfolding listBelow
   list-none f = refl
 
-  pub list-next : (n : ℕ) (f : ℕ → A) → listBelow (suc n) f ≡ listBelow n f ++ (f n ∷ [])
+  list-next : (n : ℕ) (f : ℕ → A) → listBelow (suc n) f ≡ listBelow n f ++ (f n ∷ [])
   unfolding listBelow
   list-next n f = refl
-
-  pub list-cong : (n : ℕ) (f g : ℕ → A) → ((k : ℕ) → k < n → f k ≡ g k) → listBelow n f ≡ listBelow n g
-  unfolding listBelow
-  list-cong zero f g h = refl
-  list-cong (suc n) f g h = ap₂ (λ (l : List A) (a : A). l ++ (a ∷ [])) (list-cong n f g (λ k l. h k (omega arith))) (h n (omega arith))
 
 -- the runs of the first n tasks, and the moves of the first m files
 abbrev pub movesOf : ℕ → ℕ → Plan → Schedule

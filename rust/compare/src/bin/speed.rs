@@ -2,7 +2,7 @@
 //! many calls, in one run on one machine.
 
 use compare::generate::{large_sheet, Random};
-use compare::reference;
+use compare::reference::{self, write_table, Table};
 use frames::{Planner, Verdict};
 use std::time::Instant;
 
@@ -17,6 +17,31 @@ fn median(mut call: impl FnMut()) -> f64 {
         .collect();
     times.sort_by(f64::total_cmp);
     times[times.len() / 2]
+}
+
+/// A sheet of 64 tasks and 256 files, and a timetable of it that moves every file: makers on a blue processor, readers on a red one.
+fn all_moved() -> (Vec<u8>, Vec<u8>) {
+    let mut sheet = String::from("(board (blue 8 999999999) (red 8 999999999))\n");
+    for i in 1..=64 {
+        sheet += &format!("(task {i} 10 10)\n");
+    }
+    for i in 0..32 {
+        let mut readers: Vec<usize> = (0..8).map(|k| 33 + (8 * i + k) % 32).collect();
+        readers.sort();
+        for j in readers {
+            sheet += &format!("(file {} {j} 1000 5)\n", i + 1);
+        }
+    }
+    let read = reference::read_sheet(sheet.as_bytes()).expect("a sound sheet");
+    let runs = (0..64)
+        .map(|i| Some(if i < 32 { (1, 10 * i) } else { (9, 10 * i + 5) }))
+        .collect();
+    let table = Table {
+        runs,
+        moves: vec![320; read.files.len()],
+    };
+    let paper = write_table(&read, &table);
+    (sheet.into_bytes(), paper.into_bytes())
 }
 
 fn main() {
@@ -68,4 +93,15 @@ fn main() {
         });
         row("marker", ours, theirs);
     }
+    let (sheet, paper) = all_moved();
+    let ours = median(|| {
+        assert!(matches!(
+            frames::mark(&sheet, &paper),
+            Verdict::Accepted { .. }
+        ));
+    });
+    let theirs = median(|| {
+        reference::mark(&sheet, &paper);
+    });
+    println!("| 64 | 256 | marker, every file moved | {ours:.0} | {theirs:.0} |");
 }

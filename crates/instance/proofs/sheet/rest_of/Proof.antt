@@ -1,5 +1,4 @@
 -- `instance::sheet::rest_of` meets its contract: what the lines passed left to read.
-use Prim.Native.Nat.{_-_}
 use mathlib.Core.Path.{subst}
 use native.Mathlib.Omega.{arith}
 use denote.Ref.{now}
