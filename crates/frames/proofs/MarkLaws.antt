@@ -11,7 +11,7 @@ use Rattle.rules.specs.InstanceText as Sheet
 use Rattle.rules.specs.InstanceText.{readInstance}
 use Rattle.rules.specs.ScheduleText as Paper
 use Rattle.rules.specs.ScheduleText.{readSchedule}
-use Rattle.rules.specs.Calls.{mark, lineAt, faultLine}
+use Rattle.rules.specs.Calls.{markOn, mark, lineAt, faultLine}
 use Rattle.text.specs.declared.faults.Fault.{Fault}
 use Rattle.text.specs.Faults.{asFault}
 use Rattle.model.specs.declared.layout.Shape.{Shape}
@@ -20,7 +20,6 @@ use Rattle.instance.specs.declared.sheet.InstanceRead.{InstanceRead}
 use Rattle.instance.specs.declared.sheet.InstanceRead.the-variants as SheetRead
 use Rattle.instance.specs.Reads.{asRead as asInstance}
 use Rattle.instance.proofs.AcceptedLaws.{read-accepted, read-refused}
-use Rattle.marking.specs.Marking.{markOn}
 
 -- ---- the answer
 

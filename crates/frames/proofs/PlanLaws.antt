@@ -8,7 +8,7 @@ use Rattle.rules.specs.InstanceText as Sheet
 use Rattle.rules.specs.InstanceText.{readInstance}
 use Rattle.rules.specs.Scheduling as Rules
 use Rattle.rules.specs.Scheduling.{Planner, outcome}
-use Rattle.rules.specs.Calls.{plan}
+use Rattle.rules.specs.Calls.{planMade, planOn, plan}
 use Rattle.rules.specs.Calls as Calls
 use Rattle.rules.proofs.PlannerLaws.{plan-refused, plan-stuck, plan-complete}
 use Rattle.text.specs.declared.faults.Fault.{Fault}
@@ -19,7 +19,6 @@ use Rattle.instance.specs.declared.sheet.InstanceRead.{InstanceRead}
 use Rattle.instance.specs.declared.sheet.InstanceRead.the-variants as SheetRead
 use Rattle.instance.specs.Reads.{asRead}
 use Rattle.instance.proofs.AcceptedLaws.{read-accepted, read-refused}
-use Rattle.planning.specs.Planning.{planMade, planOn}
 use Rattle.planning.proofs.AnswerLaws.{answer}
 
 plan-on : (R : Planner) (sheet buffer : List ℕ) (I : Instance) → readInstance sheet ≡ Sheet.accepted I → plan R sheet buffer ≡ planOn R I buffer

@@ -2,7 +2,6 @@
 -- buffer then holds. (The marker's contract cites rules' `MarkedOrRefused` and `MarkedExactly`.)
 use Prim.Native.Nat.{ℕ, _+_, _*_, _≤_}
 use mathlib.Core.Path.{_≡_}
-use mathlib.Core.Logic.{_↔_}
 use mathlib.Core.List.{List}
 use lib.ListN.{length}
 use Rattle.rules.specs.Model.{Colour, Instance, limitOf, taskCount, allSizes}
@@ -11,14 +10,14 @@ use Rattle.rules.specs.Scheduling.{Planner, outcome}
 use Rattle.rules.specs.InstanceText.{accepted, readInstance}
 use Rattle.rules.specs.ScheduleText.{scheduleText}
 use Rattle.rules.specs.Calls.{Answer}
-use Rattle.rules.specs.Promises.{WrittenOrRefused, Written, AcceptedBack, Completes, trialsOf}
+use Rattle.rules.specs.Promises.{WrittenOrRefused, PlannedExactly, AcceptedBack, Completes, trialsOf}
 
 -- what a planner's answer and buffer promise
 pub record Planned (R : Planner) (sheet buffer : List ℕ) (a : Answer) : Type 0 where
   -- success, or one refusal that is listed for a planner, with the buffer as it was
   pub ends : WrittenOrRefused buffer a
-  -- success exactly where the rule is not stuck and its timetable fits; it is then what was written
-  pub exactly : (I : Instance) → readInstance sheet ≡ accepted I → (a .number ≡ 0) ↔ Written R I buffer a
+  -- for an accepted sheet: success, 21 and 31 exactly where the rule says so, with what was written and where
+  pub exactly : (I : Instance) → readInstance sheet ≡ accepted I → PlannedExactly R I buffer a
   -- what was written is accepted when read back, with the span and peaks it claims
   pub readBack : a .number ≡ 0 → AcceptedBack R sheet buffer a
   -- with limits of at least all file sizes and a buffer as long as the timetable it succeeds

@@ -14,7 +14,7 @@ use Rattle.model.specs.Claims.{asClaim}
 use Rattle.schedule.specs.declared.reader.ScheduleRead.{ScheduleRead}
 use Rattle.schedule.specs.declared.reader.ScheduleRead.the-variants as PaperRead
 use Rattle.schedule.specs.Reading.{asRead as asSchedule}
-use Rattle.marking.specs.Marking.{markRead, markOn}
+use Rattle.rules.specs.Calls.{markRead, markOn}
 
 module _ (I : Instance) (timetable : List ℕ) (P : Schedule) (r : ScheduleRead) (read : asSchedule P r ≡ readSchedule I timetable) where
   pub paper-read : {c : Claim} → r ≡ PaperRead.Read c → readSchedule I timetable ≡ Paper.read P (asClaim c)

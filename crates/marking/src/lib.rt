@@ -1,9 +1,9 @@
 // A timetable marked on an instance: read, and judged if it can be.
 ghost use mathlib.Core.Path.{_≡_};
+ghost use Rattle.rules.specs.Calls.{markOn};
 ghost use Rattle.rules.specs.Promises.{WellFormed};
 ghost use Rattle.model.specs.Layout.{jobOf, instanceFrom};
 ghost use Rattle.validator.specs.Answer.{asVerdict};
-ghost use Rattle.marking.specs.Marking.{markOn};
 use model::layout;
 use model::layout::Shape;
 use schedule::ScheduleRead;

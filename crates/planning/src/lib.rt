@@ -1,13 +1,13 @@
 // An instance planned, and its timetable written into a lent buffer.
 ghost use mathlib.Core.Path.{_≡_};
-ghost use Rattle.rules.specs.Calls.{written};
+ghost use Rattle.rules.specs.Calls.{written, planOn};
 ghost use Rattle.rules.specs.Promises.{WellFormed};
 ghost use Rattle.rules.specs.ScheduleText.{scheduleText};
 ghost use Rattle.rules.specs.Validity.{trueClaim};
 ghost use Rattle.model.specs.Layout.{jobOf, planOf, instanceFrom, scheduleFrom, Bounds};
 ghost use Rattle.validator.specs.Complete.{Placed};
 ghost use Rattle.planner.specs.Outcomes.{asPlanner};
-ghost use Rattle.planning.specs.Planning.{asAnswer, planOn};
+ghost use Rattle.planning.specs.Planning.{asAnswer};
 use model::layout;
 use model::layout::Shape;
 use planner::Outcome;

@@ -5,7 +5,7 @@ use Rattle.model.specs.Layout.{jobOf, planOf, instanceFrom, scheduleFrom}
 use Rattle.model.proofs.LayoutLaws.{job-bounds}
 use Rattle.validator.proofs.SpelledLaws.{spelled-placed, spelled-bounds}
 use Rattle.planner.specs.Outcomes.{asPlanner}
-use Rattle.planning.specs.Planning.{planMade}
+use Rattle.rules.specs.Calls.{planMade}
 use Rattle.planning.proofs.AnswerLaws.{made-stuck, made-complete}
 use borrow.Author.Needs.{needs}
 use Rattle.planning.proofs.plan_instance.Statement.{statement}

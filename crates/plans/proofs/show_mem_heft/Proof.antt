@@ -23,7 +23,7 @@ slice-aggregate-print-answer : tie.Need-slice-aggregate-print-answer
 slice-aggregate-print-answer c = search needs
 
 print-answer-requires : tie.Need-print-answer-requires
-print-answer-requires c κs = λ e. let w = c .before .before .before .before .mem-heft .ensures .1 .readBack e .written in omega (arith, w .place, w .fits, c .before .before .before .before .mem-heft .kept .1 .0)
+print-answer-requires c κs = λ e. let w = c .before .before .before .before .mem-heft .ensures .1 .readBack e .written in omega (arith, w .place, w .rule .fits, c .before .before .before .before .mem-heft .kept .1 .0)
 
 returns : tie.Need-returns
 returns c = search needs
