@@ -19,7 +19,7 @@ use Rattle.instance.specs.declared.sheet.InstanceRead.{InstanceRead}
 use Rattle.instance.specs.declared.sheet.InstanceRead.the-variants as SheetRead
 use Rattle.instance.specs.Reads.{asRead}
 use Rattle.instance.proofs.AcceptedLaws.{read-accepted, read-refused}
-use Rattle.planning.proofs.AnswerLaws.{answer}
+use Rattle.plan_text.proofs.AnswerLaws.{answer}
 
 plan-on : (R : Planner) (sheet buffer : List ℕ) (I : Instance) → readInstance sheet ≡ Sheet.accepted I → plan R sheet buffer ≡ planOn R I buffer
 plan-on R sheet buffer I e = by-outcome (outcome R I) refl

@@ -7,4 +7,4 @@ pub use marker::fault_line;
 pub use marker::mark;
 pub use planners::mem_heft;
 pub use planners::mem_min_min;
-pub use planning::Answer;
+pub use plan_text::Answer;

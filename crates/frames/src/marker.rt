@@ -4,7 +4,7 @@ ghost use Rattle.rules.specs.Calls.{mark as rules-mark, faultLine};
 ghost use Rattle.validator.specs.Answer.{asVerdict};
 ghost use Rattle.rules.specs.Promises.{MarkedOrRefused, MarkedExactly};
 use instance::InstanceRead;
-use marking::mark_paper;
+use mark_text::mark_paper;
 use model::layout;
 use rules::between;
 use validator::judgement::Verdict;

@@ -3,13 +3,13 @@ ghost use mathlib.Core.Path.{_≡_};
 ghost use Rattle.rules.specs.Calls.{plan as rules-plan};
 ghost use Rattle.rules.specs.Scheduling.{memHeft, memMinMin};
 ghost use Rattle.planner.specs.Outcomes.{asPlanner};
-ghost use Rattle.planning.specs.Planning.{asAnswer};
+ghost use Rattle.plan_text.specs.Planning.{asAnswer};
 ghost use Rattle.frames.specs.Demands.{Planned};
 use instance::InstanceRead;
 use model::layout;
 use planner::Rule;
-use planning::Answer;
-use planning::plan_instance;
+use plan_text::Answer;
+use plan_text::plan_instance;
 
 // The planner on a board sheet.
 fn plan_sheet(rule: Rule, sheet: &[u8], out: &mut [u8]) -> Answer

@@ -14,9 +14,9 @@ use Rattle.rules.proofs.RoundLaws.{round-trial}
 use Rattle.rules.proofs.SoundLaws.{Sound, stride, start-processor, assign-sound, empty-sound, moveBound}
 use Rattle.rules.proofs.TurnLaws.{rounds-stuck, rounds-place, rounds-done, outcome-is}
 use Rattle.model.specs.declared.layout.Shape.{Shape}
-use Rattle.rounds.specs.declared.round.Round.{Round}
-use Rattle.rounds.specs.declared.trial.Choice.the-variants.{Nothing, Choose}
-use Rattle.rounds.specs.Choices.{asChoice, asRound}
+use Rattle.selection.specs.declared.round.Round.{Round}
+use Rattle.selection.specs.declared.trial.Choice.the-variants.{Nothing, Choose}
+use Rattle.selection.specs.Choices.{asChoice, asRound}
 use Rattle.model.specs.Layout.{colourBy, Job, Plan, instanceFrom, scheduleFrom, partialFrom, Bounds, LastBounds}
 use Rattle.model.proofs.LayoutLaws.{task-count, file-count, run-at, move-at, last-finish-at, job-bounds}
 

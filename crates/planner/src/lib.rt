@@ -7,16 +7,16 @@ ghost use Rattle.rules.specs.Model.{taskCount};
 ghost use Rattle.rules.specs.Promises.{WellFormed};
 ghost use Rattle.rules.specs.Scheduling.{byWeight, roundOf, outcome};
 ghost use Rattle.model.specs.Layout.{jobOf, planOf, instanceFrom, scheduleFrom, partialFrom, planLength, Bounds, LastBounds};
-ghost use Rattle.rounds.specs.Choices.{asRound, ChoiceBounds, OrderBounds};
+ghost use Rattle.selection.specs.Choices.{asRound, ChoiceBounds, OrderBounds};
 ghost use Rattle.planner.specs.Outcomes.{asPlanner, asOutcome};
 use model::layout;
 use model::layout::Shape;
-use order::list::by_weight;
-use placing::task::place;
-use rounds::round::Round;
-use rounds::round::earliest_round;
-use rounds::round::first_that_fits;
-use rounds::trial::Choice;
+use ranking::list::by_weight;
+use placement::task::place;
+use selection::round::Round;
+use selection::round::earliest_round;
+use selection::round::first_that_fits;
+use selection::trial::Choice;
 use rules::Board;
 
 // The two planners.

@@ -4,8 +4,8 @@ use mathlib.Core.Path.{_≡_, refl}
 use native.Mathlib.Omega.{arith}
 use lib.ListN.{length, length-replicate}
 use Rattle.model.proofs.LayoutLaws.{job-bounds}
-use Rattle.placing.proofs.PlaceLaws.{empty-from}
-use Rattle.rounds.proofs.ChoiceLaws.{chosen-bounds}
+use Rattle.placement.proofs.PlaceLaws.{empty-from}
+use Rattle.selection.proofs.ChoiceLaws.{chosen-bounds}
 use Rattle.model.specs.Layout.{jobOf, planOf, planLength, lastLength}
 use Rattle.planner.specs.Outcomes.{asPlanner}
 use Rattle.planner.proofs.PlanningLaws.{Planning, planning-start, planning-bounds, planning-last, planning-stuck, planning-processor, planning-next, planning-done}

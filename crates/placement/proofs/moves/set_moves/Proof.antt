@@ -1,0 +1,63 @@
+-- `set_moves` meets its contract. The invariant: the move starts of the files passed are set.
+use Prim.Native.Nat.{_≤_, _-_}
+use native.Mathlib.Omega.{arith}
+use Rattle.model.specs.Layout.{jobOf, colourBy, JobBounds}
+use Rattle.placement.proofs.MoveLaws.{MovesTo, moves-none, moves-turn, moves-total}
+use borrow.Author.Needs.{needs}
+use Rattle.placement.proofs.moves.set_moves.Statement.{statement}
+use Rattle.placement.proofs.moves.set_moves.Tie as tie
+
+abbrev Inv-loop : tie.InvT-loop
+Inv-loop shape job plan₀ i blue start k₀ plan k = (k ≤ shape .files) × ((f : JobBounds shape (jobOf job)) → MovesTo f plan₀ i (colourBy blue) start plan k)
+
+abbrev μ-loop : tie.MeasureT-loop
+μ-loop shape job plan₀ i blue start k₀ plan k = shape .files - k
+
+loop-holds : tie.Need-loop-holds Inv-loop μ-loop
+loop-holds c = (omega arith, λ f. moves-none f _ _ _ _ (c .pre .1))
+
+move-with-requires : tie.Need-move-with-requires Inv-loop μ-loop
+move-with-requires c κs = search needs
+
+add-plan : tie.Need-add-plan Inv-loop μ-loop
+add-plan c = search needs
+
+mul-plan : tie.Need-mul-plan Inv-loop μ-loop
+mul-plan c = search needs
+
+element-write-plan : tie.Need-element-write-plan Inv-loop μ-loop
+element-write-plan c = search needs
+
+add-k : tie.Need-add-k Inv-loop μ-loop
+add-k c = search needs
+
+loop-less : tie.Need-loop-less Inv-loop μ-loop
+loop-less c = search needs
+
+loop-again : tie.Need-loop-again Inv-loop μ-loop
+loop-again c =
+    let s = c .before .before .before .before .before in
+    let at = c .before .before .before .before .loop in
+    (omega arith, λ f. moves-turn f _ _ _ _ (c .before .before .if1 .taken) (at .inv .1 f) (c .move-with .ensures))
+
+returns : tie.Need-returns Inv-loop μ-loop
+returns c =
+    let s = c .before .before .before in
+    let m = c .before .before .loop .inv .1 (s .pre .0) in
+    (m .size, (m .runs, moves-total (s .pre .0) (s .args .plan .now) (s .args .i) (colourBy (s .args .blue)) (s .args .start) (omega arith) m))
+
+pub set-moves-spec : {M : Type 1} → statement M
+set-moves-spec =
+    tie.close
+    (tie.spec
+    Inv-loop
+    μ-loop
+    loop-holds
+    move-with-requires
+    add-plan
+    mul-plan
+    element-write-plan
+    add-k
+    loop-less
+    loop-again
+    returns)

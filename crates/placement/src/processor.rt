@@ -1,0 +1,91 @@
+// The processor that a task gets: of those free by its start, the first of those with the latest last finish.
+ghost use mathlib.Core.Path.{_≡_};
+ghost use mathlib.Core.Bool.{_&&_};
+ghost use Prim.Native.Nat.{_<_};
+ghost use lib.Dec.{leb, eqb};
+ghost use Rattle.rules.specs.Count.{maxWhere};
+ghost use Rattle.rules.specs.Scheduling.{chosenProcessor};
+ghost use Rattle.model.specs.Layout.{Job, Plan, instanceFrom, partialFrom, colourBy, countIn, Processors, lastLength};
+ghost use Rattle.placement.specs.Slots.{slotIn, lastIn};
+use model::choice::either;
+use model::choice::greater;
+use model::choice::when;
+use model::layout;
+use model::layout::Shape;
+
+// The processors of the colour.
+fn count_in(shape: Shape, blue: bool) -> usize
+    ensures { λ r. ⌜ r ≡ countIn shape blue ⌝ }
+{
+    either(
+        blue,
+        shape.board.blue.processors,
+        shape.board.red.processors,
+    ) as usize
+}
+
+// The place among the last finishes of the colour's processor p, counted from 0 within the colour.
+pub fn slot_in(shape: Shape, blue: bool, p: usize) -> usize
+    requires { ⌜ Processors shape ⌝ }
+    requires { ⌜ p < countIn shape blue ⌝ }
+    ensures { λ r. ⌜ r ≡ slotIn shape blue p ⌝ }
+    ensures { λ r. ⌜ r < lastLength ⌝ }
+{
+    if blue {
+        return p;
+    }
+    shape.board.blue.processors as usize + p
+}
+
+// The finish of the last run placed on that processor.
+fn last_in(shape: Shape, last: &[u64; layout::LAST], blue: bool, p: usize) -> u64
+    requires { ⌜ Processors shape ⌝ }
+    requires { ⌜ p < countIn shape blue ⌝ }
+    ensures { λ r. ⌜ r ≡ lastIn shape (now (last .entry)) blue p ⌝ }
+{
+    let slot = slot_in(shape, blue, p);
+    last[slot]
+}
+
+// The latest last finish of the colour's processors that are free by the start; 0 if there are none.
+fn latest_in(shape: Shape, last: &[u64; layout::LAST], blue: bool, start: u64) -> u64
+    requires { ⌜ Processors shape ⌝ }
+    ensures { λ r. ⌜ r ≡ maxWhere (countIn shape blue) (λ p. leb (lastIn shape (now (last .entry)) blue p) start) (lastIn shape (now (last .entry)) blue) ⌝ }
+{
+    let n = count_in(shape, blue);
+    let mut most: u64 = 0;
+    let mut p: usize = 0;
+    while p < n {
+        let finish = last_in(shape, last, blue, p);
+        most = greater(most, when(finish <= start, finish));
+        p += 1;
+    }
+    most
+}
+
+// Whether a processor with this last finish is free by the start, and the finish is the latest of these.
+fn suits(finish: u64, start: u64, latest: u64) -> bool
+    ensures { λ r. ⌜ r ≡ leb finish start && eqb finish latest ⌝ }
+{
+    if finish <= start {
+        return finish == latest;
+    }
+    false
+}
+
+// The processor chosen, counted from 0 within the colour; their number if none is free by the start.
+pub fn chosen_processor(shape: Shape, last: &[u64; layout::LAST], blue: bool, start: u64) -> u64
+    requires { ⌜ Processors shape ⌝ }
+    ensures { λ r. ⌜ ((J : Job) (L : Plan) → r ≡ chosenProcessor (instanceFrom shape J) (partialFrom shape L (now (last .entry))) (colourBy blue) start) ⌝ }
+{
+    let n = count_in(shape, blue);
+    let latest = latest_in(shape, last, blue, start);
+    let mut p: usize = 0;
+    while p < n {
+        if suits(last_in(shape, last, blue, p), start, latest) {
+            return p as u64;
+        }
+        p += 1;
+    }
+    p as u64
+}

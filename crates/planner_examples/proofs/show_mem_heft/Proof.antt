@@ -1,0 +1,42 @@
+-- `show_mem_heft` lends a buffer that holds the whole timetable on success.
+use native.Mathlib.Omega.{arith}
+use borrow.Author.Needs.{needs}
+use Rattle.planner_examples.proofs.show_mem_heft.Statement.{statement}
+use Rattle.planner_examples.proofs.show_mem_heft.Tie as tie
+
+large-buffer-requires : tie.Need-large-buffer-requires
+large-buffer-requires c κs = search needs
+
+slice-aggregate-mem-heft : tie.Need-slice-aggregate-mem-heft
+slice-aggregate-mem-heft c = search needs
+
+mem-heft-requires : tie.Need-mem-heft-requires
+mem-heft-requires c κs = search needs
+
+slice-aggregate-print-head : tie.Need-slice-aggregate-print-head
+slice-aggregate-print-head c = search needs
+
+print-head-requires : tie.Need-print-head-requires
+print-head-requires c κs = search needs
+
+slice-aggregate-print-answer : tie.Need-slice-aggregate-print-answer
+slice-aggregate-print-answer c = search needs
+
+print-answer-requires : tie.Need-print-answer-requires
+print-answer-requires c κs = λ e. let w = c .before .before .before .before .mem-heft .ensures .1 .readBack e .written in omega (arith, w .place, w .rule .fits, c .before .before .before .before .mem-heft .kept .1 .0)
+
+returns : tie.Need-returns
+returns c = search needs
+
+pub show-mem-heft-spec : {M : Type 1} → statement M
+show-mem-heft-spec =
+    tie.close
+    (tie.spec
+    large-buffer-requires
+    slice-aggregate-mem-heft
+    mem-heft-requires
+    slice-aggregate-print-head
+    print-head-requires
+    slice-aggregate-print-answer
+    print-answer-requires
+    returns)

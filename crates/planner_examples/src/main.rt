@@ -1,0 +1,72 @@
+// Both planners on the sheets of data/, and a buffer one byte too short.
+use frames::Answer;
+use libc::STDOUT_FILENO;
+use console::print_answer;
+use console::print_number;
+
+// What is shown, and the answer's numbers.
+fn print_head(name: &[u8], planner: &[u8], a: Answer) {
+    io::write_all(STDOUT_FILENO, name);
+    io::write_all(STDOUT_FILENO, planner);
+    print_number(a.number);
+    print_number(a.place);
+    print_number(a.trials);
+    io::write_all(STDOUT_FILENO, b"\n");
+}
+
+fn show_mem_heft(name: &[u8], sheet: &[u8]) {
+    let mut out = io::large_buffer();
+    let a = frames::mem_heft(sheet, &mut out);
+    print_head(name, b", MemHEFT:", a);
+    print_answer(a, &out);
+}
+
+fn show_mem_min_min(name: &[u8], sheet: &[u8]) {
+    let mut out = io::large_buffer();
+    let a = frames::mem_min_min(sheet, &mut out);
+    print_head(name, b", MemMinMin:", a);
+    print_answer(a, &out);
+}
+
+// Both planners on the sheet of a file.
+fn show(name: &[u8]) {
+    let fd = os::open_read(name);
+    if fd < 0 {
+        os::fail(name);
+        return;
+    }
+    let mut sheet = io::large_buffer();
+    let n = io::read_full(fd, &mut sheet);
+    libc::close(fd);
+    show_mem_heft(name, &sheet[..n]);
+    show_mem_min_min(name, &sheet[..n]);
+}
+
+// The course example takes 76 bytes; 75 are lent, and stay as they were.
+fn show_short() {
+    let sheet =
+        b"(board (blue 1 6) (red 1 6))\n(task 1 4 2)\n(task 2 3 5)\n(task 3 2 6)\n(file 1 2 2 1)\n(file 1 3 3 2)\n";
+    let mut out = [b'.'; 75];
+    let a = frames::mem_heft(sheet, &mut out);
+    print_head(b"75 bytes", b", MemHEFT:", a);
+    io::write_all(STDOUT_FILENO, &out);
+    io::write_all(STDOUT_FILENO, b"\n");
+}
+
+fn main() {
+    show(b"course.sheet");
+    show(b"tight.sheet");
+    show(b"stuck.sheet");
+    show(b"stuck_late.sheet");
+    show(b"red_only.sheet");
+    show(b"blue_only.sheet");
+    show(b"equal_weights.sheet");
+    show(b"equal_finishes.sheet");
+    show(b"latest_processor.sheet");
+    show(b"size_zero.sheet");
+    show(b"no_files.sheet");
+    show(b"move_times_differ.sheet");
+    show(b"refused_line.sheet");
+    show(b"largest.sheet");
+    show_short();
+}

@@ -1,0 +1,53 @@
+// The weights of document 01: twice a task's upward rank.
+ghost use mathlib.Core.Path.{_≡_};
+ghost use Prim.Native.Nat.{ℕ, _+_, _<_};
+ghost use lib.ListN.{getD};
+ghost use Rattle.rules.specs.Count.{maxWhere};
+ghost use Rattle.rules.specs.Model.{fileCount, fileAt, moveTimeAt};
+ghost use Rattle.rules.specs.Scheduling.{makes, weight as weightOf};
+ghost use Rattle.rules.specs.Promises.{WellFormed};
+ghost use Rattle.model.specs.Layout.{jobOf, instanceFrom};
+ghost use Rattle.ranking.specs.Weights.{WeightsFrom};
+use model::choice::greater;
+use model::choice::when;
+use model::layout;
+use model::layout::Shape;
+use rules::Board;
+
+// The greatest, over the files that task i makes, of move time plus reader's weight; 0 if it makes none.
+fn heaviest_reader<'a>(
+    shape: Shape,
+    job: &'a [u64; layout::JOB],
+    weights: &'a [u64; Board::MAX_TASKS],
+    i: usize,
+) -> u64
+    requires { ⌜ WellFormed (instanceFrom shape (jobOf (now job))) ⌝ }
+    requires { ⌜ WeightsFrom (instanceFrom shape (jobOf (now job))) (now weights) (i + 1) ⌝ }
+    ensures { λ r. ⌜ r ≡ maxWhere (fileCount (instanceFrom shape (jobOf (now (job .entry))))) (makes (instanceFrom shape (jobOf (now (job .entry)))) i) (λ k. moveTimeAt (instanceFrom shape (jobOf (now (job .entry)))) k + weightOf (instanceFrom shape (jobOf (now (job .entry)))) (fileAt (instanceFrom shape (jobOf (now (job .entry)))) k .reader)) ⌝ }
+{
+    let mut most: u64 = 0;
+    let mut k: usize = 0;
+    while k < shape.files {
+        let d = layout::reader(job, k) as usize;
+        let path = layout::move_time(job, k) + weights[d];
+        most = greater(most, when(layout::maker(job, k) == i as u64, path));
+        k += 1;
+    }
+    most
+}
+
+// The weight of each task, from the last task down: a file's reader comes behind its maker.
+pub fn weights(shape: Shape, job: &[u64; layout::JOB]) -> [u64; Board::MAX_TASKS]
+    requires { ⌜ WellFormed (instanceFrom shape (jobOf (now job))) ⌝ }
+    ensures { λ r. ⌜ ((i : ℕ) → i < shape .tasks → getD r i 0 ≡ weightOf (instanceFrom shape (jobOf (now (job .entry)))) i) ⌝ }
+{
+    let mut all = [0; Board::MAX_TASKS];
+    let mut i = shape.tasks;
+    while 0 < i {
+        i -= 1;
+        let time = layout::run_time(job, i, true) + layout::run_time(job, i, false);
+        let behind = heaviest_reader(shape, job, &all, i);
+        all[i] = time + behind;
+    }
+    all
+}

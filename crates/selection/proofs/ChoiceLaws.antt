@@ -1,0 +1,47 @@
+-- The trials of one task: the cases of the small functions on choices.
+use Prim.Native.Nat.{ℕ, _≤_, _<_}
+use mathlib.Core.Bool.{Bool}
+use mathlib.Core.Path.{_≡_, _∙_}
+use borrow.Author.Tests.{le-leb, lt-leb}
+use Rattle.rules.specs.Model.{blue, red, Instance}
+use Rattle.rules.specs.Scheduling.{Partial, nothing, choose, earliestStart, finishOn, tried, earlier, bothColours}
+use Rattle.model.specs.declared.layout.Shape.{Shape}
+use Rattle.model.specs.Layout.{colourBy, lastStart}
+use Rattle.starts.specs.declared.memory.Free.{Free}
+use Rattle.starts.specs.declared.memory.Free.the-variants.{Nowhere, From}
+use Rattle.starts.specs.FreeMemory.{asOption}
+use Rattle.selection.specs.declared.trial.Choice.{Choice}
+use Rattle.selection.specs.declared.trial.Choice.the-variants.{Nothing, Choose}
+use Rattle.selection.specs.Choices.{asChoice, ChoiceBounds}
+
+module _ (i : ℕ) (x : Bool) (a : Free) where
+  pub tried-nowhere : a ≡ Nowhere → nothing ≡ tried i (colourBy x) (asOption a)
+  tried-nowhere e = rw e
+
+  pub tried-from : {s : ℕ} → a ≡ From s → choose i (colourBy x) s ≡ tried i (colourBy x) (asOption a)
+  tried-from e = rw e
+
+pub chosen-bounds : (b : Shape) (a : Choice) {i s : ℕ} {x : Bool} → a ≡ Choose i x s → ChoiceBounds b a → (i < b .tasks) × (s ≤ lastStart)
+chosen-bounds b a e h = rw e at h
+
+module _ (I : Instance) (a b : Choice) where
+  pub earlier-none : a ≡ Nothing → asChoice b ≡ earlier I (asChoice a) (asChoice b)
+  earlier-none e = rw e
+
+  module _ {i s : ℕ} {x : Bool} (e : a ≡ Choose i x s) where
+    pub earlier-only : b ≡ Nothing → choose i (colourBy x) s ≡ earlier I (asChoice a) (asChoice b)
+    earlier-only g = rw (e, g)
+
+    module _ {j t : ℕ} {y : Bool} (g : b ≡ Choose j y t) {m n : ℕ} (p : m ≡ finishOn I i (colourBy x) s) (q : n ≡ finishOn I j (colourBy y) t) where
+      pub earlier-first : m ≤ n → choose i (colourBy x) s ≡ earlier I (asChoice a) (asChoice b)
+      earlier-first l = rw (e, g, ← p, ← q, le-leb m n l)
+
+      pub earlier-second : n < m → choose j (colourBy y) t ≡ earlier I (asChoice a) (asChoice b)
+      earlier-second l = rw (e, g, ← p, ← q, lt-leb m n l)
+
+pub both-at : (I : Instance) (Q : Partial) (i : ℕ) (f g : Free) (a b r : Choice)
+    → asOption f ≡ earliestStart I Q i blue → asOption g ≡ earliestStart I Q i red
+    → asChoice a ≡ tried i blue (asOption f) → asChoice b ≡ tried i red (asOption g)
+    → asChoice r ≡ earlier I (asChoice a) (asChoice b) → asChoice r ≡ bothColours I Q i
+unfolding bothColours
+both-at I Q i f g a b r ef eg ea eb er = er ∙ rw (ea, eb, ef, eg)

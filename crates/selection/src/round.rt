@@ -1,0 +1,113 @@
+// One round of each planner, and the trials that it took.
+ghost use mathlib.Core.List.{[], _∷_};
+ghost use mathlib.Core.Path.{_≡_};
+ghost use Prim.Native.Nat.{_*_, _<_, _≤_};
+ghost use lib.ListN.{getD};
+ghost use Rattle.rules.specs.Count.{listBelow};
+ghost use Rattle.rules.specs.Model.{taskCount};
+ghost use Rattle.rules.specs.Scheduling.{earliestBelow, firstThatFits};
+ghost use Rattle.model.specs.Layout.{jobOf, planOf, instanceFrom, Bounds, partialFrom, LastBounds};
+ghost use Rattle.selection.specs.Choices.{asChoice, asRound, isChosen, ChoiceBounds, OrderBounds};
+use super::readiness::ready;
+use super::trial::Choice;
+use super::trial::both_colours;
+use super::trial::earlier;
+use model::layout;
+use model::layout::Shape;
+use rules::Board;
+
+// A round's choice and the trials that it took, a task on a colour counting one.
+pub struct Round {
+    pub choice: Choice,
+    pub trials: u64,
+}
+
+// Whether there is something to be placed.
+fn chosen(choice: Choice) -> bool
+    ensures { λ r. ⌜ r ≡ isChosen (asChoice choice) ⌝ }
+{
+    match choice {
+        Choice::Nothing => false,
+        Choice::Choose { .. } => true,
+    }
+}
+
+// The round of one task alone: two trials if it is ready, else none.
+fn try_task<'a>(
+    shape: Shape,
+    job: &'a [u64; layout::JOB],
+    plan: &'a [u64; layout::PLAN],
+    last: &'a [u64; layout::LAST],
+    task: u64,
+) -> Round
+    requires { ⌜ Bounds shape (jobOf (now job)) (planOf (now plan)) ⌝ }
+    requires { ⌜ LastBounds shape (now last) ⌝ }
+    requires { ⌜ task < shape .tasks ⌝ }
+    ensures { λ r. ⌜ asRound r ≡ firstThatFits (instanceFrom shape (jobOf (now (job .entry)))) (partialFrom shape (planOf (now (plan .entry))) (now (last .entry))) (task ∷ []) ⌝ }
+    ensures { λ r. ⌜ ChoiceBounds shape (r .choice) × (r .trials ≤ 2) ⌝ }
+{
+    if ready(shape, job, plan, task) {
+        let choice = both_colours(shape, job, plan, last, task);
+        return Round { choice, trials: 2 };
+    }
+    Round {
+        choice: Choice::Nothing,
+        trials: 0,
+    }
+}
+
+// MemMinMin's round: the earliest finish of the ready tasks, ties to the lower task, then blue.
+pub fn earliest_round<'a>(
+    shape: Shape,
+    job: &'a [u64; layout::JOB],
+    plan: &'a [u64; layout::PLAN],
+    last: &'a [u64; layout::LAST],
+) -> Round
+    requires { ⌜ Bounds shape (jobOf (now job)) (planOf (now plan)) ⌝ }
+    requires { ⌜ LastBounds shape (now last) ⌝ }
+    ensures { λ r. ⌜ asRound r ≡ earliestBelow (instanceFrom shape (jobOf (now (job .entry)))) (partialFrom shape (planOf (now (plan .entry))) (now (last .entry))) (taskCount (instanceFrom shape (jobOf (now (job .entry))))) ⌝ }
+    ensures { λ r. ⌜ ChoiceBounds shape (r .choice) × (r .trials ≤ 2 * shape .tasks) ⌝ }
+{
+    let mut choice = Choice::Nothing;
+    let mut trials: u64 = 0;
+    let mut i: usize = 0;
+    while i < shape.tasks {
+        let round = try_task(shape, job, plan, last, i as u64);
+        let found = round.choice;
+        choice = earlier(shape, job, choice, found);
+        trials += round.trials;
+        i += 1;
+    }
+    Round { choice, trials }
+}
+
+// MemHEFT's round: the first task in the order that is ready and fits in either colour.
+pub fn first_that_fits<'a>(
+    shape: Shape,
+    job: &'a [u64; layout::JOB],
+    plan: &'a [u64; layout::PLAN],
+    last: &'a [u64; layout::LAST],
+    order: &'a [u64; Board::MAX_TASKS],
+) -> Round
+    requires { ⌜ Bounds shape (jobOf (now job)) (planOf (now plan)) ⌝ }
+    requires { ⌜ LastBounds shape (now last) ⌝ }
+    requires { ⌜ OrderBounds shape (now order) ⌝ }
+    ensures { λ r. ⌜ asRound r ≡ firstThatFits (instanceFrom shape (jobOf (now (job .entry)))) (partialFrom shape (planOf (now (plan .entry))) (now (last .entry))) (listBelow (shape .tasks) (λ p. getD (now (order .entry)) p 0)) ⌝ }
+    ensures { λ r. ⌜ ChoiceBounds shape (r .choice) × (r .trials ≤ 2 * shape .tasks) ⌝ }
+{
+    let mut trials: u64 = 0;
+    let mut i: usize = 0;
+    while i < shape.tasks {
+        let round = try_task(shape, job, plan, last, order[i]);
+        let choice = round.choice;
+        trials += round.trials;
+        if chosen(choice) {
+            return Round { choice, trials };
+        }
+        i += 1;
+    }
+    Round {
+        choice: Choice::Nothing,
+        trials,
+    }
+}
