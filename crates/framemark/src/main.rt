@@ -1,7 +1,7 @@
 // framemark SHEET PAPER: marks the timetable of the file PAPER on the board sheet of the file SHEET.
-use libc::STDOUT_FILENO;
 use console::print_number;
 use console::print_refusal;
+use libc::STDOUT_FILENO;
 
 // Opens the file that an argument names; says why where that fails, and answers -1.
 fn open_argument(i: usize) -> i32 {

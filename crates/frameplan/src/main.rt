@@ -1,7 +1,7 @@
 // frameplan [memheft|memminmin]: reads a board sheet from standard input and prints its timetable, by MemHEFT or the planner named.
+use console::print_answer;
 use libc::STDIN_FILENO;
 use libc::STDOUT_FILENO;
-use console::print_answer;
 
 // The planner that the arguments name.
 enum Named {

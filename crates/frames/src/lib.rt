@@ -5,6 +5,6 @@ mod planners;
 
 pub use marker::fault_line;
 pub use marker::mark;
+pub use plan_text::Answer;
 pub use planners::mem_heft;
 pub use planners::mem_min_min;
-pub use plan_text::Answer;

@@ -7,9 +7,9 @@ ghost use Rattle.plan_text.specs.Planning.{asAnswer};
 ghost use Rattle.frames.specs.Demands.{Planned};
 use instance::InstanceRead;
 use model::layout;
-use planner::Rule;
 use plan_text::Answer;
 use plan_text::plan_instance;
+use planner::Rule;
 
 // The planner on a board sheet.
 fn plan_sheet(rule: Rule, sheet: &[u8], out: &mut [u8]) -> Answer

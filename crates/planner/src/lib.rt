@@ -11,13 +11,13 @@ ghost use Rattle.selection.specs.Choices.{asRound, ChoiceBounds, OrderBounds};
 ghost use Rattle.planner.specs.Outcomes.{asPlanner, asOutcome};
 use model::layout;
 use model::layout::Shape;
-use ranking::list::by_weight;
 use placement::task::place;
+use ranking::list::by_weight;
+use rules::Board;
 use selection::round::Round;
 use selection::round::earliest_round;
 use selection::round::first_that_fits;
 use selection::trial::Choice;
-use rules::Board;
 
 // The two planners.
 pub enum Rule {
