@@ -8,7 +8,7 @@ ghost use Rattle.rules.specs.InstanceText.{taskLine, fileLine, ascends, fileAll
 ghost use Rattle.rules.specs.Limits.{taskNumbers};
 ghost use Rattle.rules.specs.Promises.{In};
 ghost use Rattle.text.specs.Faults.{asFault};
-ghost use Rattle.model.specs.Layout.{jobOf, instanceFrom};
+ghost use Rattle.model.specs.Layout.{instanceOf};
 ghost use Rattle.instance.specs.Lines.{asReading, Numbered};
 ghost use Rattle.instance.specs.Steps.{jobLength, Room, asStep, RoomIn};
 use crate::line::Line;
@@ -64,7 +64,7 @@ pub fn first(line: Line) -> Step
 fn add_task(shape: Shape, job: &mut [u64; layout::JOB], i: u64, blue: u64, red: u64) -> Step
     requires { ⌜ Room shape (now job) ⌝ }
     requires { ⌜ In taskNumbers i ⌝ }
-    ensures { λ r. ⌜ asStep r (now (job .exit)) ≡ orUndue (withLine (instanceFrom shape (jobOf (now (job .entry)))) (taskLine i (record { onBlue = blue; onRed = red }))) ⌝ }
+    ensures { λ r. ⌜ asStep r (now (job .exit)) ≡ orUndue (withLine (instanceOf shape (now (job .entry))) (taskLine i (record { onBlue = blue; onRed = red }))) ⌝ }
     ensures { λ r. ⌜ RoomIn r (now (job .exit)) ⌝ }
 {
     if shape.files != 0 {
@@ -87,7 +87,7 @@ fn add_task(shape: Shape, job: &mut [u64; layout::JOB], i: u64, blue: u64, red: 
 // Whether a pair of tasks, counted from 0, is behind that of the last file.
 fn ascending(shape: Shape, job: &[u64; layout::JOB], i: u64, j: u64) -> bool
     requires { ⌜ Room shape (now job) ⌝ }
-    ensures { λ r. ⌜ r ≡ ascends (instanceFrom shape (jobOf (now (job .entry)))) i j ⌝ }
+    ensures { λ r. ⌜ r ≡ ascends (instanceOf shape (now (job .entry))) i j ⌝ }
 {
     if shape.files == 0 {
         return true;
@@ -107,7 +107,7 @@ fn ascending(shape: Shape, job: &[u64; layout::JOB], i: u64, j: u64) -> bool
 fn file_allowed(shape: Shape, job: &[u64; layout::JOB], i: u64, j: u64) -> bool
     requires { ⌜ Room shape (now job) ⌝ }
     requires { ⌜ In taskNumbers i ⌝ }
-    ensures { λ r. ⌜ r ≡ fileAllowed (instanceFrom shape (jobOf (now (job .entry)))) i j ⌝ }
+    ensures { λ r. ⌜ r ≡ fileAllowed (instanceOf shape (now (job .entry))) i j ⌝ }
 {
     if j <= i {
         return false;
@@ -132,7 +132,7 @@ fn add_file(
 ) -> Step
     requires { ⌜ Room shape (now job) ⌝ }
     requires { ⌜ In taskNumbers i × In taskNumbers j ⌝ }
-    ensures { λ r. ⌜ asStep r (now (job .exit)) ≡ orUndue (withLine (instanceFrom shape (jobOf (now (job .entry)))) (fileLine i j size time)) ⌝ }
+    ensures { λ r. ⌜ asStep r (now (job .exit)) ≡ orUndue (withLine (instanceOf shape (now (job .entry))) (fileLine i j size time)) ⌝ }
     ensures { λ r. ⌜ RoomIn r (now (job .exit)) ⌝ }
 {
     if !file_allowed(shape, job, i, j) {
@@ -156,7 +156,7 @@ fn add_file(
 pub fn add(shape: Shape, job: &mut [u64; layout::JOB], line: Line) -> Step
     requires { ⌜ Room shape (now job) ⌝ }
     requires { ⌜ Numbered line ⌝ }
-    ensures { λ r. ⌜ asStep r (now (job .exit)) ≡ due (withLine (instanceFrom shape (jobOf (now (job .entry))))) (asReading line) ⌝ }
+    ensures { λ r. ⌜ asStep r (now (job .exit)) ≡ due (withLine (instanceOf shape (now (job .entry)))) (asReading line) ⌝ }
     ensures { λ r. ⌜ RoomIn r (now (job .exit)) ⌝ }
 {
     if let Line::Task { i, blue, red } = line {

@@ -7,10 +7,10 @@ use borrow.Author.Tests.{eq-eqb, ne-eqb}
 use Rattle.rules.specs.Model.{sameColour}
 use Rattle.rules.specs.Scheduling.{crossing}
 use Rattle.model.specs.declared.layout.Shape.{Shape}
-use Rattle.model.specs.Layout.{Job, Plan, instanceFrom, scheduleFrom, colourBy, JobBounds}
+use Rattle.model.specs.Layout.{Job, Entries, instanceFrom, scheduleFrom, colourBy, JobBounds}
 use Rattle.model.proofs.LayoutLaws.{file-at, run-at, isBlue, processors-of}
 
-module _ {b : Shape} {J : Job} (f : JobBounds b J) (L : Plan) {k : ℕ} (h : k < b .files) (i : ℕ) (c : Bool) where
+module _ {b : Shape} {J : Job} (f : JobBounds b J) (L : Entries) {k : ℕ} (h : k < b .files) (i : ℕ) (c : Bool) where
   abbrev isCrossing : Bool
   isCrossing = crossing (instanceFrom b J) (scheduleFrom b L) i (colourBy c) k
 

@@ -13,7 +13,7 @@ use Rattle.rules.specs.Limits.{processorCounts, runTimes}
 use Rattle.rules.specs.Promises.{In, WellFormed}
 use Rattle.rules.proofs.CountLaws.{length-listBelow, getD-listBelow}
 use Rattle.model.specs.declared.layout.Shape.{Shape}
-use Rattle.model.specs.Layout.{Job, Plan, taskFrom, fileFrom, runFrom, instanceFrom, scheduleFrom, partialFrom, colourBy, countIn, JobBounds, Bounds}
+use Rattle.model.specs.Layout.{Job, Entries, taskFrom, fileFrom, runFrom, instanceFrom, scheduleFrom, partialFrom, colourBy, countIn, JobBounds, Bounds}
 
 pub time-by : (x : Bool) (a : Task) → timeOn (colourBy x) a ≡ cond x (a .onBlue) (a .onRed)
 time-by true a = refl
@@ -76,10 +76,10 @@ module _ (b : Shape) (J : Job) where
 -- ---- the schedule
 
 -- whether task i runs on blue
-abbrev pub isBlue : Shape → Plan → ℕ → Bool
+abbrev pub isBlue : Shape → Entries → ℕ → Bool
 isBlue b L i = leb (L .processor i) (b .board .blue .processors)
 
-module _ (b : Shape) (L : Plan) where
+module _ (b : Shape) (L : Entries) where
   pub run-at : (i : ℕ) → i < b .tasks → runAt (scheduleFrom b L) i ≡ runFrom L i
   unfolding scheduleFrom
   run-at i h = getD-listBelow (b .tasks) (runFrom L) i _ h
@@ -92,7 +92,7 @@ module _ (b : Shape) (L : Plan) where
   pub last-finish-at : (last : List ℕ) (p : ℕ) → p < b .board .blue .processors + b .board .red .processors → getD (partialFrom b L last .lastFinish) p 0 ≡ getD last p 0
   last-finish-at last p h = getD-listBelow (b .board .blue .processors + b .board .red .processors) (λ p. getD last p 0) p 0 h
 
-module _ {b : Shape} {J : Job} {L : Plan} (f : Bounds b J L) where
+module _ {b : Shape} {J : Job} {L : Entries} (f : Bounds b J L) where
   abbrev I : Instance
   I = instanceFrom b J
 

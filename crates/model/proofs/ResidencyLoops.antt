@@ -8,12 +8,12 @@ use Rattle.rules.specs.Model.{Colour, Instance, Schedule, sizeAt}
 use Rattle.rules.specs.Residency.{covers, settles, holdOf, isHeld, held, settlesAt, horizon}
 use Rattle.model.specs.declared.layout.Shape.{Shape}
 use Rattle.model.specs.declared.residency.Hold.{Hold}
-use Rattle.model.specs.Layout.{Job, Plan, Bounds, instanceFrom, scheduleFrom}
+use Rattle.model.specs.Layout.{Job, Entries, Bounds, instanceFrom, scheduleFrom}
 use Rattle.model.specs.Holds.{asHold}
 use Rattle.model.proofs.LayoutLaws.{file-count, size-at}
 use Rattle.model.proofs.StepLaws.{sum-turn, max-next}
 
-module _ {b : Shape} {J : Job} {L : Plan} (f : Bounds b J L) (c : Colour) where
+module _ {b : Shape} {J : Job} {L : Entries} (f : Bounds b J L) (c : Colour) where
   abbrev I : Instance
   I = instanceFrom b J
 

@@ -33,21 +33,21 @@ jobOf xs = record {
 }
 
 -- the processor and the start of each task, and the move start of each file
-pub record Plan : Type 0 where
+pub record Entries : Type 0 where
   pub processor : ℕ → ℕ
   pub start : ℕ → ℕ
   pub moveStart : ℕ → ℕ
 
-abbrev pub planOf : List ℕ → Plan
-planOf xs = record {
+abbrev pub entriesOf : List ℕ → Entries
+entriesOf xs = record {
   processor = λ i. getD xs i 0;
   start = λ i. getD xs (maxTasks + i) 0;
   moveStart = λ k. getD xs (2 * maxTasks + k) 0;
 }
 
--- the length of a plan array
-abbrev pub planLength : ℕ
-planLength = 2 * maxTasks + maxFiles
+-- the length of a schedule array
+abbrev pub scheduleLength : ℕ
+scheduleLength = 2 * maxTasks + maxFiles
 
 -- the length of an array of last finishes
 abbrev pub lastLength : ℕ
@@ -66,7 +66,7 @@ fileFrom J k = record {
   moveTime = J .moveTime k;
 }
 
-abbrev pub runFrom : Plan → ℕ → Run
+abbrev pub runFrom : Entries → ℕ → Run
 runFrom L i = record { processor = L .processor i; start = L .start i }
 
 unfoldable pub instanceFrom : Shape → Job → Instance
@@ -77,18 +77,29 @@ instanceFrom b J = record {
   files = listBelow (b .files) (fileFrom J);
 }
 
-unfoldable pub scheduleFrom : Shape → Plan → Schedule
+unfoldable pub scheduleFrom : Shape → Entries → Schedule
 scheduleFrom b L = record {
   runs = listBelow (b .tasks) (runFrom L);
   moves = listBelow (b .files) (λ k. L .moveStart k);
 }
 
 -- the last finish of each processor, blue ones first, beside the schedule
-abbrev pub partialFrom : Shape → Plan → List ℕ → Partial
+abbrev pub partialFrom : Shape → Entries → List ℕ → Partial
 partialFrom b L last = record {
   schedule = scheduleFrom b L;
   lastFinish = listBelow (b .board .blue .processors + b .board .red .processors) (λ p. getD last p 0);
 }
+
+-- ---- the same of the arrays themselves
+
+abbrev pub instanceOf : Shape → List ℕ → Instance
+instanceOf b job = instanceFrom b (jobOf job)
+
+abbrev pub scheduleOf : Shape → List ℕ → Schedule
+scheduleOf b schedule = scheduleFrom b (entriesOf schedule)
+
+abbrev pub partialOf : Shape → List ℕ → List ℕ → Partial
+partialOf b schedule last = partialFrom b (entriesOf schedule) last
 
 -- the code's colour: blue is `true`
 abbrev pub colourBy : Bool → Colour
@@ -122,13 +133,20 @@ pub record JobBounds (b : Shape) (J : Job) : Type 0 where
   pub size : Bounded (fileSizes .most) (b .files) (J .size)
   pub moveTime : Bounded (moveTimes .most) (b .files) (J .moveTime)
 
-pub record PlanBounds (b : Shape) (L : Plan) : Type 0 where
+pub record ScheduleBounds (b : Shape) (L : Entries) : Type 0 where
   pub start : Bounded (ticks .most) (b .tasks) (L .start)
   pub moveStart : Bounded (ticks .most) (b .files) (L .moveStart)
 
-pub record Bounds (b : Shape) (J : Job) (L : Plan) : Type 0 where
+pub record Bounds (b : Shape) (J : Job) (L : Entries) : Type 0 where
   pub job : JobBounds b J
-  pub plan : PlanBounds b L
+  pub schedule : ScheduleBounds b L
+
+-- the same of the arrays themselves
+abbrev pub JobInBounds : Shape → List ℕ → Type 0
+JobInBounds b job = JobBounds b (jobOf job)
+
+abbrev pub InBounds : Shape → List ℕ → List ℕ → Type 0
+InBounds b job schedule = Bounds b (jobOf job) (entriesOf schedule)
 
 -- no finish and no end of a move is later
 abbrev pub lastTick : ℕ

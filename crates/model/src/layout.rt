@@ -1,11 +1,11 @@
-// Where the numbers of an instance and of a schedule stand: a job array and a plan array, beside a shape of plain numbers.
+// Where the numbers of an instance and of a schedule stand: a job array and a schedule array, beside a shape of plain numbers.
 ghost use mathlib.Core.Path.{_≡_};
 ghost use mathlib.Core.Bool.{cond};
 ghost use Prim.Native.Nat.{_<_, _≤_, max};
 ghost use lib.Dec.{leb};
 ghost use Rattle.rules.specs.Limits.{maxTasks, maxFiles};
-ghost use Rattle.model.specs.Layout.{jobOf, planOf};
-use super::choice::either;
+ghost use Rattle.model.specs.Layout.{jobOf, entriesOf};
+use super::choice::select;
 use rules::Board;
 
 // The counts of an instance, and its board.
@@ -28,8 +28,8 @@ pub const SIZE: usize = READER + Board::MAX_FILES;
 
 pub const MOVE_TIME: usize = SIZE + Board::MAX_FILES;
 
-// A plan array: processor (0 if not placed) and start of each task; then the move start of each file.
-pub const PLAN: usize = 2 * Board::MAX_TASKS + Board::MAX_FILES;
+// A schedule array: processor (0 if not placed) and start of each task; then the move start of each file.
+pub const SCHEDULE: usize = 2 * Board::MAX_TASKS + Board::MAX_FILES;
 
 pub const START: usize = Board::MAX_TASKS;
 
@@ -38,13 +38,13 @@ pub const MOVE_START: usize = START + Board::MAX_TASKS;
 // The last finish of each processor, blue ones first.
 pub const LAST: usize = 2 * (Board::MAX_PROCESSORS as usize);
 
-// The run time of task i on a processor of the colour, blue being `true`.
-pub fn run_time(job: &[u64; JOB], i: usize, blue: bool) -> u64
+// The run time of task i on a processor of the colour. Here and everywhere a colour is `true` for blue.
+pub fn run_time(job: &[u64; JOB], i: usize, colour: bool) -> u64
     requires { ⌜ i < maxTasks ⌝ }
-    ensures { λ r. ⌜ r ≡ cond blue (jobOf (now (job .entry)) .onBlue i) (jobOf (now (job .entry)) .onRed i) ⌝ }
+    ensures { λ r. ⌜ r ≡ cond colour (jobOf (now (job .entry)) .onBlue i) (jobOf (now (job .entry)) .onRed i) ⌝ }
     ensures { λ r. ⌜ r ≤ max (jobOf (now (job .entry)) .onBlue i) (jobOf (now (job .entry)) .onRed i) ⌝ }
 {
-    either(blue, job[i], job[ON_RED + i])
+    select(colour, job[i], job[ON_RED + i])
 }
 
 pub fn maker(job: &[u64; JOB], k: usize) -> u64
@@ -75,31 +75,31 @@ pub fn move_time(job: &[u64; JOB], k: usize) -> u64
     job[MOVE_TIME + k]
 }
 
-pub fn processor(plan: &[u64; PLAN], i: usize) -> u64
+pub fn processor(schedule: &[u64; SCHEDULE], i: usize) -> u64
     requires { ⌜ i < maxTasks ⌝ }
-    ensures { λ r. ⌜ r ≡ planOf (now (plan .entry)) .processor i ⌝ }
+    ensures { λ r. ⌜ r ≡ entriesOf (now (schedule .entry)) .processor i ⌝ }
 {
-    plan[i]
+    schedule[i]
 }
 
-pub fn start(plan: &[u64; PLAN], i: usize) -> u64
+pub fn start(schedule: &[u64; SCHEDULE], i: usize) -> u64
     requires { ⌜ i < maxTasks ⌝ }
-    ensures { λ r. ⌜ r ≡ planOf (now (plan .entry)) .start i ⌝ }
+    ensures { λ r. ⌜ r ≡ entriesOf (now (schedule .entry)) .start i ⌝ }
 {
-    plan[START + i]
+    schedule[START + i]
 }
 
-pub fn move_start(plan: &[u64; PLAN], k: usize) -> u64
+pub fn move_start(schedule: &[u64; SCHEDULE], k: usize) -> u64
     requires { ⌜ k < maxFiles ⌝ }
-    ensures { λ r. ⌜ r ≡ planOf (now (plan .entry)) .moveStart k ⌝ }
+    ensures { λ r. ⌜ r ≡ entriesOf (now (schedule .entry)) .moveStart k ⌝ }
 {
-    plan[MOVE_START + k]
+    schedule[MOVE_START + k]
 }
 
 // Whether task i runs on blue.
-pub fn on_blue(shape: Shape, plan: &[u64; PLAN], i: usize) -> bool
+pub fn on_blue(shape: Shape, schedule: &[u64; SCHEDULE], i: usize) -> bool
     requires { ⌜ i < maxTasks ⌝ }
-    ensures { λ r. ⌜ r ≡ leb (planOf (now (plan .entry)) .processor i) (shape .board .blue .processors) ⌝ }
+    ensures { λ r. ⌜ r ≡ leb (entriesOf (now (schedule .entry)) .processor i) (shape .board .blue .processors) ⌝ }
 {
-    processor(plan, i) <= shape.board.blue.processors
+    processor(schedule, i) <= shape.board.blue.processors
 }

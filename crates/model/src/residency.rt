@@ -4,10 +4,10 @@ ghost use mathlib.Core.Bool.{cond};
 ghost use Prim.Native.Nat.{_<_, _≤_, max};
 ghost use Rattle.rules.specs.Model.{sameColour, finishAt};
 ghost use Rattle.rules.specs.Residency.{closedHold, openHold, never, covers as rules-covers, settles as rules-settles, holdOf, held, horizon};
-ghost use Rattle.model.specs.Layout.{jobOf, planOf, instanceFrom, scheduleFrom, colourBy, Bounds, lastTick, mostHeld};
+ghost use Rattle.model.specs.Layout.{instanceOf, scheduleOf, colourBy, InBounds, lastTick, mostHeld};
 ghost use Rattle.model.specs.Holds.{asHold, Within};
 use super::choice::greater;
-use super::choice::when;
+use super::choice::value_if;
 use super::layout;
 use super::layout::Shape;
 
@@ -19,7 +19,7 @@ pub enum Hold {
 }
 
 // Whether two colours are the same, blue being `true`.
-pub fn same(a: bool, b: bool) -> bool
+pub fn same_colour(a: bool, b: bool) -> bool
     ensures { λ r. ⌜ r ≡ sameColour (colourBy a) (colourBy b) ⌝ }
 {
     if a { b } else { !b }
@@ -87,46 +87,46 @@ pub fn settles(h: Hold) -> u64
 pub fn finish<'a>(
     shape: Shape,
     job: &'a [u64; layout::JOB],
-    plan: &'a [u64; layout::PLAN],
+    schedule: &'a [u64; layout::SCHEDULE],
     i: usize,
 ) -> u64
-    requires { ⌜ Bounds shape (jobOf (now job)) (planOf (now plan)) ⌝ }
+    requires { ⌜ InBounds shape (now job) (now schedule) ⌝ }
     requires { ⌜ i < shape .tasks ⌝ }
-    ensures { λ r. ⌜ r ≡ finishAt (instanceFrom shape (jobOf (now (job .entry)))) (scheduleFrom shape (planOf (now (plan .entry)))) i ⌝ }
+    ensures { λ r. ⌜ r ≡ finishAt (instanceOf shape (now (job .entry))) (scheduleOf shape (now (schedule .entry))) i ⌝ }
     ensures { λ r. ⌜ r ≤ lastTick ⌝ }
 {
-    let time = layout::run_time(job, i, layout::on_blue(shape, plan, i));
-    layout::start(plan, i) + time
+    let time = layout::run_time(job, i, layout::on_blue(shape, schedule, i));
+    layout::start(schedule, i) + time
 }
 
 // The hold of file k in the memory of the colour.
 pub fn hold_of<'a>(
     shape: Shape,
     job: &'a [u64; layout::JOB],
-    plan: &'a [u64; layout::PLAN],
+    schedule: &'a [u64; layout::SCHEDULE],
     k: usize,
     colour: bool,
 ) -> Hold
-    requires { ⌜ Bounds shape (jobOf (now job)) (planOf (now plan)) ⌝ }
+    requires { ⌜ InBounds shape (now job) (now schedule) ⌝ }
     requires { ⌜ k < shape .files ⌝ }
-    ensures { λ r. ⌜ asHold r ≡ holdOf (instanceFrom shape (jobOf (now (job .entry)))) (scheduleFrom shape (planOf (now (plan .entry)))) (colourBy colour) k ⌝ }
+    ensures { λ r. ⌜ asHold r ≡ holdOf (instanceOf shape (now (job .entry))) (scheduleOf shape (now (schedule .entry))) (colourBy colour) k ⌝ }
     ensures { λ r. ⌜ Within lastTick r ⌝ }
 {
     let m = layout::maker(job, k) as usize;
     let d = layout::reader(job, k) as usize;
-    let from = layout::on_blue(shape, plan, m);
-    let moves = !same(from, layout::on_blue(shape, plan, d));
-    let departs = layout::move_start(plan, k);
+    let from = layout::on_blue(shape, schedule, m);
+    let moves = !same_colour(from, layout::on_blue(shape, schedule, d));
+    let departs = layout::move_start(schedule, k);
     let arrives = departs + layout::move_time(job, k);
     hold_when(
-        0 < layout::processor(plan, m),
-        0 < layout::processor(plan, d),
+        0 < layout::processor(schedule, m),
+        0 < layout::processor(schedule, d),
         moves,
-        same(from, colour),
-        layout::start(plan, m),
+        same_colour(from, colour),
+        layout::start(schedule, m),
         departs,
         arrives,
-        finish(shape, job, plan, d),
+        finish(shape, job, schedule, d),
     )
 }
 
@@ -134,19 +134,19 @@ pub fn hold_of<'a>(
 pub fn held_at<'a>(
     shape: Shape,
     job: &'a [u64; layout::JOB],
-    plan: &'a [u64; layout::PLAN],
+    schedule: &'a [u64; layout::SCHEDULE],
     colour: bool,
     t: u64,
 ) -> u64
-    requires { ⌜ Bounds shape (jobOf (now job)) (planOf (now plan)) ⌝ }
-    ensures { λ r. ⌜ r ≡ held (instanceFrom shape (jobOf (now (job .entry)))) (scheduleFrom shape (planOf (now (plan .entry)))) (colourBy colour) t ⌝ }
+    requires { ⌜ InBounds shape (now job) (now schedule) ⌝ }
+    ensures { λ r. ⌜ r ≡ held (instanceOf shape (now (job .entry))) (scheduleOf shape (now (schedule .entry))) (colourBy colour) t ⌝ }
     ensures { λ r. ⌜ r ≤ mostHeld ⌝ }
 {
     let mut sum: u64 = 0;
     let mut i: usize = 0;
     while i < shape.files {
-        let h = hold_of(shape, job, plan, i, colour);
-        sum += when(covers(h, t), layout::size(job, i));
+        let h = hold_of(shape, job, schedule, i, colour);
+        sum += value_if(covers(h, t), layout::size(job, i));
         i += 1;
     }
     sum
@@ -156,17 +156,17 @@ pub fn held_at<'a>(
 pub fn horizon_of<'a>(
     shape: Shape,
     job: &'a [u64; layout::JOB],
-    plan: &'a [u64; layout::PLAN],
+    schedule: &'a [u64; layout::SCHEDULE],
     colour: bool,
 ) -> u64
-    requires { ⌜ Bounds shape (jobOf (now job)) (planOf (now plan)) ⌝ }
-    ensures { λ r. ⌜ r ≡ horizon (instanceFrom shape (jobOf (now (job .entry)))) (scheduleFrom shape (planOf (now (plan .entry)))) (colourBy colour) ⌝ }
+    requires { ⌜ InBounds shape (now job) (now schedule) ⌝ }
+    ensures { λ r. ⌜ r ≡ horizon (instanceOf shape (now (job .entry))) (scheduleOf shape (now (schedule .entry))) (colourBy colour) ⌝ }
     ensures { λ r. ⌜ r ≤ lastTick ⌝ }
 {
     let mut most: u64 = 0;
     let mut i: usize = 0;
     while i < shape.files {
-        most = greater(most, settles(hold_of(shape, job, plan, i, colour)));
+        most = greater(most, settles(hold_of(shape, job, schedule, i, colour)));
         i += 1;
     }
     most

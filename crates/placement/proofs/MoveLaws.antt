@@ -13,10 +13,10 @@ use Rattle.rules.specs.Model.{Instance, Schedule, Colour, runAt, moveAt, fileAt
 use Rattle.rules.specs.Scheduling.{crossing, moveWith}
 use Rattle.rules.proofs.CountLaws.{list-cong}
 use Rattle.model.specs.declared.layout.Shape.{Shape}
-use Rattle.model.specs.Layout.{Job, Plan, planOf, instanceFrom, scheduleFrom, JobBounds, planLength}
+use Rattle.model.specs.Layout.{Job, Entries, entriesOf, instanceFrom, scheduleFrom, JobBounds, scheduleLength}
 use Rattle.model.proofs.LayoutLaws.{file-count, maker-at, move-time-at, run-at, move-at}
 
-module _ {b : Shape} {J : Job} (f : JobBounds b J) (L : Plan) {k : ℕ} (h : k < b .files) where
+module _ {b : Shape} {J : Job} (f : JobBounds b J) (L : Entries) {k : ℕ} (h : k < b .files) where
   abbrev I : Instance
   I = instanceFrom b J
 
@@ -33,18 +33,18 @@ module _ {b : Shape} {J : Job} (f : JobBounds b J) (xs : List ℕ) (i : ℕ) (c 
   abbrev inst : Instance
   inst = instanceFrom b J
 
-  -- when a file moves, by the plan xs
+  -- when a file moves, by the schedule xs
   abbrev pub moveBy : ℕ → ℕ
-  moveBy = moveWith inst (scheduleFrom b (planOf xs)) i c start
+  moveBy = moveWith inst (scheduleFrom b (entriesOf xs)) i c start
 
-  -- ys is the plan xs with the move starts of the first k files set
+  -- ys is the schedule xs with the move starts of the first k files set
   pub record MovesTo (ys : List ℕ) (k : ℕ) : Type 0 where
-    pub size : length ys ≡ planLength
+    pub size : length ys ≡ scheduleLength
     pub runs : (j : ℕ) → j < 2 * maxTasks → getD ys j 0 ≡ getD xs j 0
-    pub done : (j : ℕ) → j < k → planOf ys .moveStart j ≡ moveBy j
-    pub rest : (j : ℕ) → k ≤ j → planOf ys .moveStart j ≡ planOf xs .moveStart j
+    pub done : (j : ℕ) → j < k → entriesOf ys .moveStart j ≡ moveBy j
+    pub rest : (j : ℕ) → k ≤ j → entriesOf ys .moveStart j ≡ entriesOf xs .moveStart j
 
-  pub moves-none : length xs ≡ planLength → MovesTo xs 0
+  pub moves-none : length xs ≡ scheduleLength → MovesTo xs 0
   moves-none e = record {
     size = e;
     runs = λ j l. refl;
@@ -54,19 +54,19 @@ module _ {b : Shape} {J : Job} (f : JobBounds b J) (xs : List ℕ) (i : ℕ) (c 
 
   module _ {ys : List ℕ} {k : ℕ} (h : k < b .files) (m : MovesTo ys k) where
     -- the runs are those of xs, so the same files cross
-    same-run : (j : ℕ) → j < b .tasks → runAt (scheduleFrom b (planOf ys)) j ≡ runAt (scheduleFrom b (planOf xs)) j
+    same-run : (j : ℕ) → j < b .tasks → runAt (scheduleFrom b (entriesOf ys)) j ≡ runAt (scheduleFrom b (entriesOf xs)) j
     same-run j l =
         let p : getD ys j 0 ≡ getD xs j 0 = m .runs j (omega (arith, f .tasks)) in
         let q : getD ys (maxTasks + j) 0 ≡ getD xs (maxTasks + j) 0 = m .runs (maxTasks + j) (omega (arith, f .tasks)) in
-        run-at b (planOf ys) j l ∙ rw (p, q) (sym (run-at b (planOf xs) j l))
+        run-at b (entriesOf ys) j l ∙ rw (p, q) (sym (run-at b (entriesOf xs) j l))
 
-    same-move : moveWith inst (scheduleFrom b (planOf ys)) i c start k ≡ moveBy k
+    same-move : moveWith inst (scheduleFrom b (entriesOf ys)) i c start k ≡ moveBy k
     same-move =
-        let r : runAt (scheduleFrom b (planOf ys)) (fileAt inst k .maker) ≡ runAt (scheduleFrom b (planOf xs)) (fileAt inst k .maker) = same-run (fileAt inst k .maker) (omega (arith, maker-at b J k h, f .maker k h)) in
-        let u : moveAt (scheduleFrom b (planOf ys)) k ≡ moveAt (scheduleFrom b (planOf xs)) k = move-at b (planOf ys) k h ∙ m .rest k (omega arith) ∙ sym (move-at b (planOf xs) k h) in
+        let r : runAt (scheduleFrom b (entriesOf ys)) (fileAt inst k .maker) ≡ runAt (scheduleFrom b (entriesOf xs)) (fileAt inst k .maker) = same-run (fileAt inst k .maker) (omega (arith, maker-at b J k h, f .maker k h)) in
+        let u : moveAt (scheduleFrom b (entriesOf ys)) k ≡ moveAt (scheduleFrom b (entriesOf xs)) k = move-at b (entriesOf ys) k h ∙ m .rest k (omega arith) ∙ sym (move-at b (entriesOf xs) k h) in
         rw (r, u)
 
-    pub moves-turn : {t : ℕ} → t ≡ moveWith inst (scheduleFrom b (planOf ys)) i c start k → MovesTo (set ys (2 * maxTasks + k) t) (k + 1)
+    pub moves-turn : {t : ℕ} → t ≡ moveWith inst (scheduleFrom b (entriesOf ys)) i c start k → MovesTo (set ys (2 * maxTasks + k) t) (k + 1)
     moves-turn {t} e =
         let at : ℕ = 2 * maxTasks + k in record {
           size = length-set ys at t ∙ m .size;
@@ -78,5 +78,5 @@ module _ {b : Shape} {J : Job} (f : JobBounds b J) (xs : List ℕ) (i : ℕ) (c 
           rest = λ j l. getD-set-other ys at (2 * maxTasks + j) t 0 (λ z. omega arith) ∙ m .rest j (omega arith);
         }
 
-  pub moves-total : {ys : List ℕ} {n : ℕ} → n ≡ b .files → MovesTo ys n → listBelow (b .files) (planOf ys .moveStart) ≡ listBelow (fileCount inst) moveBy
+  pub moves-total : {ys : List ℕ} {n : ℕ} → n ≡ b .files → MovesTo ys n → listBelow (b .files) (entriesOf ys .moveStart) ≡ listBelow (fileCount inst) moveBy
   moves-total e m = list-cong (b .files) _ _ (λ k l. m .done k (omega arith)) ∙ ap (λ n. listBelow n moveBy) (sym (file-count b J))

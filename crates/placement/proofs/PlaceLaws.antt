@@ -13,29 +13,29 @@ use Rattle.rules.specs.Model.{Instance, Run, unplaced, processorCount, fileCoun
 use Rattle.rules.specs.Scheduling.{Partial, slotOf, chosenProcessor, moveWith, assign, empty, finishOn}
 use Rattle.rules.proofs.CountLaws.{list-cong, list-set, list-same, getD-same}
 use Rattle.model.specs.declared.layout.Shape.{Shape}
-use Rattle.model.specs.Layout.{Job, planOf, runFrom, instanceFrom, scheduleFrom, partialFrom, colourBy, countIn, JobBounds, planLength, lastLength}
+use Rattle.model.specs.Layout.{Job, entriesOf, runFrom, instanceFrom, scheduleFrom, partialFrom, colourBy, countIn, JobBounds, scheduleLength, lastLength}
 use Rattle.model.proofs.LayoutLaws.{file-count, task-count, finish-on-at, processors-of}
 use Rattle.placement.specs.Slots.{slotIn}
 use Rattle.placement.proofs.SlotLaws.{slot-at, slot-exists}
 
 -- ---- a run written
 
--- the plan array xs with a run of task i
+-- the schedule array xs with a run of task i
 abbrev pub withRun : List ℕ → ℕ → ℕ → ℕ → List ℕ
 withRun xs i p s = set (set xs i p) (maxTasks + i) s
 
-pub run-length : (xs : List ℕ) (i p s : ℕ) {ys : List ℕ} → ys ≡ withRun xs i p s → length xs ≡ planLength → length ys ≡ planLength
+pub run-length : (xs : List ℕ) (i p s : ℕ) {ys : List ℕ} → ys ≡ withRun xs i p s → length xs ≡ scheduleLength → length ys ≡ scheduleLength
 run-length xs i p s e size = rw e (length-set (set xs i p) (maxTasks + i) s ∙ length-set xs i p ∙ size)
 
 module _ (xs : List ℕ) (i p s : ℕ) (h : i < maxTasks) where
-  run-here : length xs ≡ planLength → runFrom (planOf (withRun xs i p s)) i ≡ record { processor = p; start = s }
+  run-here : length xs ≡ scheduleLength → runFrom (entriesOf (withRun xs i p s)) i ≡ record { processor = p; start = s }
   run-here e = rw (
     getD-set-other (set xs i p) (maxTasks + i) i s 0 (λ z. omega arith),
     getD-set-same xs i p 0 (omega arith),
     getD-set-same (set xs i p) (maxTasks + i) s 0 (omega (arith, length-set xs i p)),
   )
 
-  run-other : (j : ℕ) → j < maxTasks → (j ≡ i → ⊥) → runFrom (planOf (withRun xs i p s)) j ≡ runFrom (planOf xs) j
+  run-other : (j : ℕ) → j < maxTasks → (j ≡ i → ⊥) → runFrom (entriesOf (withRun xs i p s)) j ≡ runFrom (entriesOf xs) j
   run-other j l d = rw (
     getD-set-other (set xs i p) (maxTasks + i) j s 0 (λ z. omega arith),
     getD-set-other xs i j p 0 d,
@@ -43,7 +43,7 @@ module _ (xs : List ℕ) (i p s : ℕ) (h : i < maxTasks) where
     getD-set-other xs i (maxTasks + j) p 0 (λ z. omega arith),
   )
 
-  run-moves : (k : ℕ) → planOf (withRun xs i p s) .moveStart k ≡ planOf xs .moveStart k
+  run-moves : (k : ℕ) → entriesOf (withRun xs i p s) .moveStart k ≡ entriesOf xs .moveStart k
   run-moves k =
       getD-set-other (set xs i p) (maxTasks + i) (2 * maxTasks + k) s 0 (λ z. omega arith) ∙ getD-set-other xs i (2 * maxTasks + k) p 0 (λ z. omega arith)
 
@@ -58,13 +58,13 @@ module _ {b : Shape} {J : Job} (f : JobBounds b J) (xs last : List ℕ) (x : Boo
   I = instanceFrom b J
 
   abbrev Q : Partial
-  Q = partialFrom b (planOf xs) last
+  Q = partialFrom b (entriesOf xs) last
 
-  module _ (ys : List ℕ) (size : length ys ≡ planLength) (same : (j : ℕ) → j < 2 * maxTasks → getD ys j 0 ≡ getD xs j 0) (p : ℕ) where
-    ys-run : (j : ℕ) → j < maxTasks → runFrom (planOf ys) j ≡ runFrom (planOf xs) j
+  module _ (ys : List ℕ) (size : length ys ≡ scheduleLength) (same : (j : ℕ) → j < 2 * maxTasks → getD ys j 0 ≡ getD xs j 0) (p : ℕ) where
+    ys-run : (j : ℕ) → j < maxTasks → runFrom (entriesOf ys) j ≡ runFrom (entriesOf xs) j
     ys-run j l = rw (same j (omega arith), same (maxTasks + j) (omega arith))
 
-    module _ {slot time : ℕ} (known : length last ≡ lastLength) (moves : listBelow (b .files) (planOf ys .moveStart) ≡ listBelow (fileCount I) (moveWith I (scheduleFrom b (planOf xs)) i (colourBy x) s))
+    module _ {slot time : ℕ} (known : length last ≡ lastLength) (moves : listBelow (b .files) (entriesOf ys .moveStart) ≡ listBelow (fileCount I) (moveWith I (scheduleFrom b (entriesOf xs)) i (colourBy x) s))
         (chosen : p ≡ chosenProcessor I Q (colourBy x) s) (exists : p < countIn b x) (here : slot ≡ slotIn b x p) (takes : time ≡ cond x (J .onBlue i) (J .onRed i)) where
       l : i < maxTasks
       l = omega (arith, f .tasks)
@@ -76,9 +76,9 @@ module _ {b : Shape} {J : Job} (f : JobBounds b J) (xs last : List ℕ) (x : Boo
       finish : s + time ≡ finishOn I i (colourBy x) s
       finish = finish-on-at b J inside x s takes
 
-      runs-placed : listBelow (b .tasks) (runFrom (planOf (withRun ys i (slot + 1) s))) ≡ set (listBelow (b .tasks) (runFrom (planOf xs))) i (record { processor = suc slot; start = s })
+      runs-placed : listBelow (b .tasks) (runFrom (entriesOf (withRun ys i (slot + 1) s))) ≡ set (listBelow (b .tasks) (runFrom (entriesOf xs))) i (record { processor = suc slot; start = s })
       runs-placed =
-          list-set (b .tasks) (runFrom (planOf xs)) (runFrom (planOf (withRun ys i (slot + 1) s))) i _ inside
+          list-set (b .tasks) (runFrom (entriesOf xs)) (runFrom (entriesOf (withRun ys i (slot + 1) s))) i _ inside
           (run-here ys i (slot + 1) s l size ∙ rw (add-one slot))
           (λ j h d. run-other ys i (slot + 1) s l j (omega (arith, f .tasks)) d ∙ ys-run j (omega (arith, f .tasks)))
 
@@ -90,18 +90,18 @@ module _ {b : Shape} {J : Job} (f : JobBounds b J) (xs last : List ℕ) (x : Boo
           (getD-set-same last slot (s + time) 0 (omega (arith, f .processors .blue .most, f .processors .red .most)))
           (λ q h d. getD-set-other last slot q (s + time) 0 d)
 
-      pub placed : {zs : List ℕ} → zs ≡ withRun ys i (slot + 1) s → partialFrom b (planOf zs) (set last slot (s + time)) ≡ assign I Q i (colourBy x) s
+      pub placed : {zs : List ℕ} → zs ≡ withRun ys i (slot + 1) s → partialFrom b (entriesOf zs) (set last slot (s + time)) ≡ assign I Q i (colourBy x) s
       unfolding assign scheduleFrom
       placed e = rw (e, at, ← finish) (parts runs-placed (list-cong (b .files) _ _ (λ k h. run-moves ys i (slot + 1) s l k) ∙ moves) last-placed)
 
 -- ---- nothing placed: arrays of zeros
 
-pub empty-from : (b : Shape) (J : Job) (m n : ℕ) → partialFrom b (planOf (replicate m 0)) (replicate n 0) ≡ empty (instanceFrom b J)
+pub empty-from : (b : Shape) (J : Job) (m n : ℕ) → partialFrom b (entriesOf (replicate m 0)) (replicate n 0) ≡ empty (instanceFrom b J)
 unfolding empty scheduleFrom
 empty-from b J m n =
     let at : (j : ℕ) → _≡_ {A = ℕ} (getD (replicate m 0) j 0) 0 = λ j. getD-same m j 0 in
     let count : b .board .blue .processors + b .board .red .processors ≡ processorCount (instanceFrom b J) = omega (arith, processors-of b J true, processors-of b J false) in
     parts
-    (list-same (b .tasks) (runFrom (planOf (replicate m 0))) unplaced (λ j h. rw (at j, at (maxTasks + j))) ∙ ap (λ k. replicate k unplaced) (sym (task-count b J)))
-    (list-same (b .files) (planOf (replicate m 0) .moveStart) 0 (λ k h. at (2 * maxTasks + k)) ∙ ap (λ k. replicate k 0) (sym (file-count b J)))
+    (list-same (b .tasks) (runFrom (entriesOf (replicate m 0))) unplaced (λ j h. rw (at j, at (maxTasks + j))) ∙ ap (λ k. replicate k unplaced) (sym (task-count b J)))
+    (list-same (b .files) (entriesOf (replicate m 0) .moveStart) 0 (λ k h. at (2 * maxTasks + k)) ∙ ap (λ k. replicate k 0) (sym (file-count b J)))
     (list-same (b .board .blue .processors + b .board .red .processors) (λ q. getD (replicate n 0) q 0) 0 (λ q h. getD-same n q 0) ∙ ap (λ k. replicate k 0) count)

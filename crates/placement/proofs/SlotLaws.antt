@@ -12,7 +12,7 @@ use Rattle.rules.specs.Scheduling.{Partial, slotOf, lastFinishOn, freeBy, lates
 use Rattle.rules.proofs.CountLaws.{max-cong, first-passed}
 use Rattle.rules.proofs.StartLaws.{free-processor, processorLaw}
 use Rattle.model.specs.declared.layout.Shape.{Shape}
-use Rattle.model.specs.Layout.{Job, Plan, instanceFrom, partialFrom, colourBy, countIn, Processors, lastLength}
+use Rattle.model.specs.Layout.{Job, Entries, instanceFrom, partialFrom, colourBy, countIn, Processors, lastLength}
 use Rattle.model.proofs.LayoutLaws.{processors-of, last-finish-at}
 use Rattle.model.proofs.StepLaws.{max-turn}
 use Rattle.placement.specs.Slots.{slotIn, lastIn}
@@ -64,7 +64,7 @@ module _ (b : Shape) (xs : List ℕ) (x : Bool) (s : ℕ) where
   pub suits-from : (p : ℕ) {f latest : ℕ} {r v : Bool} → f ≡ lastIn b xs x p → latest ≡ latestIn → r ≡ leb f s && eqb f latest → r ≡ v → suitsIn p ≡ v
   suits-from p e q t h = rw (← h, t, q, e)
 
-  module _ (J : Job) (L : Plan) where
+  module _ (J : Job) (L : Entries) where
     abbrev I : Instance
     I = instanceFrom b J
 

@@ -5,66 +5,66 @@ ghost use Prim.Native.Nat.{_<_};
 ghost use lib.Dec.{leb, eqb};
 ghost use Rattle.rules.specs.Count.{maxWhere};
 ghost use Rattle.rules.specs.Scheduling.{chosenProcessor};
-ghost use Rattle.model.specs.Layout.{Job, Plan, instanceFrom, partialFrom, colourBy, countIn, Processors, lastLength};
+ghost use Rattle.model.specs.Layout.{Job, Entries, lastLength, instanceFrom, partialFrom, colourBy, countIn, Processors};
 ghost use Rattle.placement.specs.Slots.{slotIn, lastIn};
-use model::choice::either;
 use model::choice::greater;
-use model::choice::when;
+use model::choice::select;
+use model::choice::value_if;
 use model::layout;
 use model::layout::Shape;
 
 // The processors of the colour.
-fn count_in(shape: Shape, blue: bool) -> usize
-    ensures { λ r. ⌜ r ≡ countIn shape blue ⌝ }
+fn count_in(shape: Shape, colour: bool) -> usize
+    ensures { λ r. ⌜ r ≡ countIn shape colour ⌝ }
 {
-    either(
-        blue,
+    select(
+        colour,
         shape.board.blue.processors,
         shape.board.red.processors,
     ) as usize
 }
 
 // The place among the last finishes of the colour's processor p, counted from 0 within the colour.
-pub fn slot_in(shape: Shape, blue: bool, p: usize) -> usize
+pub fn slot_in(shape: Shape, colour: bool, p: usize) -> usize
     requires { ⌜ Processors shape ⌝ }
-    requires { ⌜ p < countIn shape blue ⌝ }
-    ensures { λ r. ⌜ r ≡ slotIn shape blue p ⌝ }
+    requires { ⌜ p < countIn shape colour ⌝ }
+    ensures { λ r. ⌜ r ≡ slotIn shape colour p ⌝ }
     ensures { λ r. ⌜ r < lastLength ⌝ }
 {
-    if blue {
+    if colour {
         return p;
     }
     shape.board.blue.processors as usize + p
 }
 
 // The finish of the last run placed on that processor.
-fn last_in(shape: Shape, last: &[u64; layout::LAST], blue: bool, p: usize) -> u64
+fn last_in(shape: Shape, last: &[u64; layout::LAST], colour: bool, p: usize) -> u64
     requires { ⌜ Processors shape ⌝ }
-    requires { ⌜ p < countIn shape blue ⌝ }
-    ensures { λ r. ⌜ r ≡ lastIn shape (now (last .entry)) blue p ⌝ }
+    requires { ⌜ p < countIn shape colour ⌝ }
+    ensures { λ r. ⌜ r ≡ lastIn shape (now (last .entry)) colour p ⌝ }
 {
-    let slot = slot_in(shape, blue, p);
+    let slot = slot_in(shape, colour, p);
     last[slot]
 }
 
 // The latest last finish of the colour's processors that are free by the start; 0 if there are none.
-fn latest_in(shape: Shape, last: &[u64; layout::LAST], blue: bool, start: u64) -> u64
+fn latest_in(shape: Shape, last: &[u64; layout::LAST], colour: bool, start: u64) -> u64
     requires { ⌜ Processors shape ⌝ }
-    ensures { λ r. ⌜ r ≡ maxWhere (countIn shape blue) (λ p. leb (lastIn shape (now (last .entry)) blue p) start) (lastIn shape (now (last .entry)) blue) ⌝ }
+    ensures { λ r. ⌜ r ≡ maxWhere (countIn shape colour) (λ p. leb (lastIn shape (now (last .entry)) colour p) start) (lastIn shape (now (last .entry)) colour) ⌝ }
 {
-    let n = count_in(shape, blue);
+    let n = count_in(shape, colour);
     let mut most: u64 = 0;
     let mut p: usize = 0;
     while p < n {
-        let finish = last_in(shape, last, blue, p);
-        most = greater(most, when(finish <= start, finish));
+        let finish = last_in(shape, last, colour, p);
+        most = greater(most, value_if(finish <= start, finish));
         p += 1;
     }
     most
 }
 
 // Whether a processor with this last finish is free by the start, and the finish is the latest of these.
-fn suits(finish: u64, start: u64, latest: u64) -> bool
+fn is_latest_free(finish: u64, start: u64, latest: u64) -> bool
     ensures { λ r. ⌜ r ≡ leb finish start && eqb finish latest ⌝ }
 {
     if finish <= start {
@@ -74,15 +74,15 @@ fn suits(finish: u64, start: u64, latest: u64) -> bool
 }
 
 // The processor chosen, counted from 0 within the colour; their number if none is free by the start.
-pub fn chosen_processor(shape: Shape, last: &[u64; layout::LAST], blue: bool, start: u64) -> u64
+pub fn chosen_processor(shape: Shape, last: &[u64; layout::LAST], colour: bool, start: u64) -> u64
     requires { ⌜ Processors shape ⌝ }
-    ensures { λ r. ⌜ ((J : Job) (L : Plan) → r ≡ chosenProcessor (instanceFrom shape J) (partialFrom shape L (now (last .entry))) (colourBy blue) start) ⌝ }
+    ensures { λ r. ⌜ ((J : Job) (L : Entries) → r ≡ chosenProcessor (instanceFrom shape J) (partialFrom shape L (now (last .entry))) (colourBy colour) start) ⌝ }
 {
-    let n = count_in(shape, blue);
-    let latest = latest_in(shape, last, blue, start);
+    let n = count_in(shape, colour);
+    let latest = latest_in(shape, last, colour, start);
     let mut p: usize = 0;
     while p < n {
-        if suits(last_in(shape, last, blue, p), start, latest) {
+        if is_latest_free(last_in(shape, last, colour, p), start, latest) {
             return p as u64;
         }
         p += 1;

@@ -4,7 +4,7 @@ ghost use Prim.Native.Nat.{_+_, _<_, _≤_};
 ghost use lib.ListN.{length, set};
 ghost use Rattle.rules.specs.Limits.{maxTasks};
 ghost use Rattle.rules.specs.Scheduling.{processorStart, assign};
-ghost use Rattle.model.specs.Layout.{jobOf, planOf, instanceFrom, partialFrom, colourBy, JobBounds, planLength, lastLength, lastStart};
+ghost use Rattle.model.specs.Layout.{scheduleLength, lastLength, instanceOf, partialOf, colourBy, JobInBounds, lastStart};
 use super::moves::set_moves;
 use super::processor::chosen_processor;
 use super::processor::slot_in;
@@ -12,35 +12,35 @@ use model::layout;
 use model::layout::Shape;
 
 // The run of task i.
-fn set_run(plan: &mut [u64; layout::PLAN], i: usize, processor: u64, start: u64)
+fn set_run(schedule: &mut [u64; layout::SCHEDULE], i: usize, processor: u64, start: u64)
     requires { ⌜ i < maxTasks ⌝ }
-    ensures { λ r. ⌜ now (plan .exit) ≡ set (set (now (plan .entry)) i processor) (maxTasks + i) start ⌝ }
+    ensures { λ r. ⌜ now (schedule .exit) ≡ set (set (now (schedule .entry)) i processor) (maxTasks + i) start ⌝ }
 {
-    plan[i] = processor;
-    plan[layout::START + i] = start;
+    schedule[i] = processor;
+    schedule[layout::START + i] = start;
 }
 
 // Task i placed on the colour at the start: the moves, the run and the last finish of its processor.
 pub fn place(
     shape: Shape,
     job: &[u64; layout::JOB],
-    plan: &mut [u64; layout::PLAN],
+    schedule: &mut [u64; layout::SCHEDULE],
     last: &mut [u64; layout::LAST],
     i: usize,
-    blue: bool,
+    colour: bool,
     start: u64,
 )
-    requires { ⌜ JobBounds shape (jobOf (now job)) ⌝ }
-    requires { ⌜ (length (now plan) ≡ planLength) × (length (now last) ≡ lastLength) ⌝ }
+    requires { ⌜ JobInBounds shape (now job) ⌝ }
+    requires { ⌜ (length (now schedule) ≡ scheduleLength) × (length (now last) ≡ lastLength) ⌝ }
     requires { ⌜ (i < shape .tasks) × (start ≤ lastStart) ⌝ }
-    requires { ⌜ processorStart (instanceFrom shape (jobOf (now job))) (partialFrom shape (planOf (now plan)) (now last)) (colourBy blue) ≤ start ⌝ }
-    ensures { λ r. ⌜ (length (now (plan .exit)) ≡ planLength) × (length (now (last .exit)) ≡ lastLength) ⌝ }
-    ensures { λ r. ⌜ partialFrom shape (planOf (now (plan .exit))) (now (last .exit)) ≡ assign (instanceFrom shape (jobOf (now (job .entry)))) (partialFrom shape (planOf (now (plan .entry))) (now (last .entry))) i (colourBy blue) start ⌝ }
+    requires { ⌜ processorStart (instanceOf shape (now job)) (partialOf shape (now schedule) (now last)) (colourBy colour) ≤ start ⌝ }
+    ensures { λ r. ⌜ (length (now (schedule .exit)) ≡ scheduleLength) × (length (now (last .exit)) ≡ lastLength) ⌝ }
+    ensures { λ r. ⌜ partialOf shape (now (schedule .exit)) (now (last .exit)) ≡ assign (instanceOf shape (now (job .entry))) (partialOf shape (now (schedule .entry)) (now (last .entry))) i (colourBy colour) start ⌝ }
 {
-    set_moves(shape, job, plan, i, blue, start);
-    let p = chosen_processor(shape, last, blue, start) as usize;
-    let slot = slot_in(shape, blue, p);
-    set_run(plan, i, slot as u64 + 1, start);
-    let finish = start + layout::run_time(job, i, blue);
+    set_moves(shape, job, schedule, i, colour, start);
+    let p = chosen_processor(shape, last, colour, start) as usize;
+    let slot = slot_in(shape, colour, p);
+    set_run(schedule, i, slot as u64 + 1, start);
+    let finish = start + layout::run_time(job, i, colour);
     last[slot] = finish;
 }

@@ -4,7 +4,7 @@ ghost use Rattle.rules.specs.Calls.{written, planOn};
 ghost use Rattle.rules.specs.Promises.{WellFormed};
 ghost use Rattle.rules.specs.ScheduleText.{scheduleText};
 ghost use Rattle.rules.specs.Validity.{trueClaim};
-ghost use Rattle.model.specs.Layout.{jobOf, planOf, instanceFrom, scheduleFrom, Bounds};
+ghost use Rattle.model.specs.Layout.{entriesOf, instanceOf, scheduleOf, InBounds};
 ghost use Rattle.validator.specs.Complete.{Placed};
 ghost use Rattle.planner.specs.Outcomes.{asPlanner};
 ghost use Rattle.plan_text.specs.Planning.{asAnswer};
@@ -31,16 +31,16 @@ impl Answer {
 fn write_plan<'a>(
     shape: Shape,
     job: &'a [u64; layout::JOB],
-    plan: &'a [u64; layout::PLAN],
+    schedule: &'a [u64; layout::SCHEDULE],
     trials: u64,
     out: &mut [u8],
 ) -> Answer
-    requires { ⌜ Bounds shape (jobOf (now job)) (planOf (now plan)) ⌝ }
-    requires { ⌜ Placed shape (planOf (now plan)) ⌝ }
-    ensures { λ r. ⌜ asAnswer r (now (out .exit)) ≡ written (scheduleText (instanceFrom shape (jobOf (now (job .entry)))) (scheduleFrom shape (planOf (now (plan .entry)))) (trueClaim (instanceFrom shape (jobOf (now (job .entry)))) (scheduleFrom shape (planOf (now (plan .entry)))))) (now (out .entry)) trials ⌝ }
+    requires { ⌜ InBounds shape (now job) (now schedule) ⌝ }
+    requires { ⌜ Placed shape (entriesOf (now schedule)) ⌝ }
+    ensures { λ r. ⌜ asAnswer r (now (out .exit)) ≡ written (scheduleText (instanceOf shape (now (job .entry))) (scheduleOf shape (now (schedule .entry))) (trueClaim (instanceOf shape (now (job .entry))) (scheduleOf shape (now (schedule .entry))))) (now (out .entry)) trials ⌝ }
 {
-    let claim = true_claim(shape, job, plan);
-    let size = schedule::schedule_size(shape, job, plan, claim);
+    let claim = true_claim(shape, job, schedule);
+    let size = schedule::schedule_size(shape, job, schedule, claim);
     if out.len() < size {
         return Answer {
             number: Answer::SHORT,
@@ -48,7 +48,7 @@ fn write_plan<'a>(
             trials,
         };
     }
-    let end = schedule::write(shape, job, plan, claim, out);
+    let end = schedule::write(shape, job, schedule, claim, out);
     Answer {
         number: 0,
         place: end as u64,
@@ -58,16 +58,16 @@ fn write_plan<'a>(
 
 // The planner on the instance of an accepted board sheet.
 pub fn plan_instance(rule: Rule, shape: Shape, job: &[u64; layout::JOB], out: &mut [u8]) -> Answer
-    requires { ⌜ WellFormed (instanceFrom shape (jobOf (now job))) ⌝ }
-    ensures { λ r. ⌜ asAnswer r (now (out .exit)) ≡ planOn (asPlanner rule) (instanceFrom shape (jobOf (now (job .entry)))) (now (out .entry)) ⌝ }
+    requires { ⌜ WellFormed (instanceOf shape (now job)) ⌝ }
+    ensures { λ r. ⌜ asAnswer r (now (out .exit)) ≡ planOn (asPlanner rule) (instanceOf shape (now (job .entry))) (now (out .entry)) ⌝ }
 {
-    let mut plan = [0; layout::PLAN];
-    match planner::run(rule, shape, job, &mut plan) {
+    let mut schedule = [0; layout::SCHEDULE];
+    match planner::run(rule, shape, job, &mut schedule) {
         Outcome::Stuck { placed, trials } => Answer {
             number: Answer::STUCK,
             place: placed,
             trials,
         },
-        Outcome::Complete { trials } => write_plan(shape, job, &plan, trials, out),
+        Outcome::Complete { trials } => write_plan(shape, job, &schedule, trials, out),
     }
 }

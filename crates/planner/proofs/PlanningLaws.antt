@@ -17,10 +17,10 @@ use Rattle.model.specs.declared.layout.Shape.{Shape}
 use Rattle.selection.specs.declared.round.Round.{Round}
 use Rattle.selection.specs.declared.trial.Choice.the-variants.{Nothing, Choose}
 use Rattle.selection.specs.Choices.{asChoice, asRound}
-use Rattle.model.specs.Layout.{colourBy, Job, Plan, instanceFrom, scheduleFrom, partialFrom, Bounds, LastBounds}
+use Rattle.model.specs.Layout.{colourBy, Job, Entries, instanceFrom, scheduleFrom, partialFrom, Bounds, LastBounds}
 use Rattle.model.proofs.LayoutLaws.{task-count, file-count, run-at, move-at, last-finish-at, job-bounds}
 
-pub record Planning (R : Planner) (b : Shape) (J : Job) (L : Plan) (last : List ℕ) (placed trials : ℕ) : Type 0 where
+pub record Planning (R : Planner) (b : Shape) (J : Job) (L : Entries) (last : List ℕ) (placed trials : ℕ) : Type 0 where
   pub most : placed ≤ b .tasks
   pub sound : Sound (instanceFrom b J) placed (partialFrom b L last)
   pub rest : outcome R (instanceFrom b J) ≡ rounds R (instanceFrom b J) (b .tasks - placed) (partialFrom b L last) trials
@@ -32,7 +32,7 @@ module _ (R : Planner) (b : Shape) (J : Job) (W : WellFormed (instanceFrom b J))
 
   -- ---- at the start
 
-  pub planning-start : (L : Plan) (last : List ℕ) → partialFrom b L last ≡ empty I → Planning R b J L last 0 0
+  pub planning-start : (L : Entries) (last : List ℕ) → partialFrom b L last ≡ empty I → Planning R b J L last 0 0
   planning-start L last e = record {
     most = omega arith;
     sound = rw e (empty-sound I);
@@ -43,7 +43,7 @@ module _ (R : Planner) (b : Shape) (J : Job) (W : WellFormed (instanceFrom b J))
       none-placed : b .tasks - 0 ≡ b .tasks
       none-placed = omega arith
 
-  module _ {L : Plan} {last : List ℕ} {placed trials : ℕ} (p : Planning R b J L last placed trials) where
+  module _ {L : Entries} {last : List ℕ} {placed trials : ℕ} (p : Planning R b J L last placed trials) where
     abbrev Q : Partial
     Q = partialFrom b L last
 
@@ -55,7 +55,7 @@ module _ (R : Planner) (b : Shape) (J : Job) (W : WellFormed (instanceFrom b J))
     pub planning-bounds : Bounds b J L
     planning-bounds = record {
       job = job-bounds b J W;
-      plan = record {
+      schedule = record {
         start = λ i h. omega (arith, ap (λ r. r .start) (run-at b L i h), p .sound .startBound i, few);
         moveStart = λ k h. omega (arith, move-at b L k h, moveBound I placed Q (p .sound) k (omega (arith, file-count b J)), few);
       };
@@ -87,22 +87,22 @@ module _ (R : Planner) (b : Shape) (J : Job) (W : WellFormed (instanceFrom b J))
             rw (one-more, trials-are) (rounds-stuck R I left Q trials e ∙ ap (λ k. stuck k (trials + roundOf R I Q .trials)) count) in
             sym (p .rest ∙ halt)
 
-        module _ {i : ℕ} {blue : Bool} {s : ℕ} (chosen : x .choice ≡ Choose i blue s) where
-          chosen-is : roundOf R I Q .choice ≡ choose i (colourBy blue) s
+        module _ {i : ℕ} {colour : Bool} {s : ℕ} (chosen : x .choice ≡ Choose i colour s) where
+          chosen-is : roundOf R I Q .choice ≡ choose i (colourBy colour) s
           chosen-is = sym choice-is ∙ rw chosen
 
-          trial : Trial I Q i (colourBy blue) s
-          trial = round-trial R I Q i (colourBy blue) s chosen-is
+          trial : Trial I Q i (colourBy colour) s
+          trial = round-trial R I Q i (colourBy colour) s chosen-is
 
-          pub planning-processor : processorStart I Q (colourBy blue) ≤ s
-          planning-processor = start-processor I W placed Q (p .sound) i (colourBy blue) s trial
+          pub planning-processor : processorStart I Q (colourBy colour) ≤ s
+          planning-processor = start-processor I W placed Q (p .sound) i (colourBy colour) s trial
 
-          pub planning-next : (L′ : Plan) (last′ : List ℕ) → partialFrom b L′ last′ ≡ assign I Q i (colourBy blue) s → x .trials ≤ 2 * b .tasks
+          pub planning-next : (L′ : Entries) (last′ : List ℕ) → partialFrom b L′ last′ ≡ assign I Q i (colourBy colour) s → x .trials ≤ 2 * b .tasks
               → Planning R b J L′ last′ (placed + 1) (trials + x .trials)
           planning-next L′ last′ q t = record {
             most = omega arith;
-            sound = rw (add-one placed, q) (assign-sound I W placed Q (p .sound) i (colourBy blue) s trial);
-            rest = p .rest ∙ rw (one-more, q, trials-are) (rounds-place R I (b .tasks - (placed + 1)) Q trials i (colourBy blue) s chosen-is);
+            sound = rw (add-one placed, q) (assign-sound I W placed Q (p .sound) i (colourBy colour) s trial);
+            rest = p .rest ∙ rw (one-more, q, trials-are) (rounds-place R I (b .tasks - (placed + 1)) Q trials i (colourBy colour) s chosen-is);
             counted = omega (arith, p .counted, job-bounds b J W .tasks);
           }
 

@@ -6,7 +6,7 @@ ghost use Rattle.rules.specs.Count.{listBelow};
 ghost use Rattle.rules.specs.Model.{taskCount};
 ghost use Rattle.rules.specs.Promises.{WellFormed};
 ghost use Rattle.rules.specs.Scheduling.{byWeight, roundOf, outcome};
-ghost use Rattle.model.specs.Layout.{jobOf, planOf, instanceFrom, scheduleFrom, partialFrom, planLength, Bounds, LastBounds};
+ghost use Rattle.model.specs.Layout.{scheduleLength, instanceOf, scheduleOf, partialOf, InBounds, LastBounds};
 ghost use Rattle.selection.specs.Choices.{asRound, ChoiceBounds, OrderBounds};
 ghost use Rattle.planner.specs.Outcomes.{asPlanner, asOutcome};
 use model::layout;
@@ -36,49 +36,62 @@ fn round<'a>(
     rule: Rule,
     shape: Shape,
     job: &'a [u64; layout::JOB],
-    plan: &'a [u64; layout::PLAN],
+    schedule: &'a [u64; layout::SCHEDULE],
     last: &'a [u64; layout::LAST],
     order: &'a [u64; Board::MAX_TASKS],
 ) -> Round
-    requires { ⌜ Bounds shape (jobOf (now job)) (planOf (now plan)) ⌝ }
+    requires { ⌜ InBounds shape (now job) (now schedule) ⌝ }
     requires { ⌜ LastBounds shape (now last) ⌝ }
     requires { ⌜ OrderBounds shape (now order) ⌝ }
-    requires { ⌜ listBelow (shape .tasks) (λ p. getD (now order) p 0) ≡ byWeight (instanceFrom shape (jobOf (now job))) (taskCount (instanceFrom shape (jobOf (now job)))) ⌝ }
-    ensures { λ r. ⌜ asRound r ≡ roundOf (asPlanner rule) (instanceFrom shape (jobOf (now (job .entry)))) (partialFrom shape (planOf (now (plan .entry))) (now (last .entry))) ⌝ }
+    requires { ⌜ listBelow (shape .tasks) (λ p. getD (now order) p 0) ≡ byWeight (instanceOf shape (now job)) (taskCount (instanceOf shape (now job))) ⌝ }
+    ensures { λ r. ⌜ asRound r ≡ roundOf (asPlanner rule) (instanceOf shape (now (job .entry))) (partialOf shape (now (schedule .entry)) (now (last .entry))) ⌝ }
     ensures { λ r. ⌜ ChoiceBounds shape (r .choice) × (r .trials ≤ 2 * shape .tasks) ⌝ }
 {
     match rule {
-        Rule::MemHeft => first_that_fits(shape, job, plan, last, order),
-        Rule::MemMinMin => earliest_round(shape, job, plan, last),
+        Rule::MemHeft => first_that_fits(shape, job, schedule, last, order),
+        Rule::MemMinMin => earliest_round(shape, job, schedule, last),
     }
 }
 
-// The planner on an instance: the rounds, from an empty plan on.
+// The planner on an instance: the rounds, from an empty schedule on.
 pub fn run(
     rule: Rule,
     shape: Shape,
     job: &[u64; layout::JOB],
-    plan: &mut [u64; layout::PLAN],
+    schedule: &mut [u64; layout::SCHEDULE],
 ) -> Outcome
-    requires { ⌜ WellFormed (instanceFrom shape (jobOf (now job))) ⌝ }
-    requires { ⌜ now plan ≡ replicate planLength 0 ⌝ }
-    ensures { λ r. ⌜ asOutcome r (scheduleFrom shape (planOf (now (plan .exit)))) ≡ outcome (asPlanner rule) (instanceFrom shape (jobOf (now (job .entry)))) ⌝ }
+    requires { ⌜ WellFormed (instanceOf shape (now job)) ⌝ }
+    requires { ⌜ now schedule ≡ replicate scheduleLength 0 ⌝ }
+    ensures { λ r. ⌜ asOutcome r (scheduleOf shape (now (schedule .exit))) ≡ outcome (asPlanner rule) (instanceOf shape (now (job .entry))) ⌝ }
 {
     let order = by_weight(shape, job);
     let mut last = [0; layout::LAST];
     let mut placed: usize = 0;
     let mut trials: u64 = 0;
     while placed < shape.tasks {
-        let found = round(rule, shape, job, plan, &last, &order);
+        let found = round(rule, shape, job, schedule, &last, &order);
         trials += found.trials;
         let choice = found.choice;
-        let Choice::Choose { task, blue, start } = choice else {
+        let Choice::Choose {
+            task,
+            colour,
+            start,
+        } = choice
+        else {
             return Outcome::Stuck {
                 placed: placed as u64,
                 trials,
             };
         };
-        place(shape, job, plan, &mut last, task as usize, blue, start);
+        place(
+            shape,
+            job,
+            schedule,
+            &mut last,
+            task as usize,
+            colour,
+            start,
+        );
         placed += 1;
     }
     Outcome::Complete { trials }

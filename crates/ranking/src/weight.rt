@@ -6,10 +6,10 @@ ghost use Rattle.rules.specs.Count.{maxWhere};
 ghost use Rattle.rules.specs.Model.{fileCount, fileAt, moveTimeAt};
 ghost use Rattle.rules.specs.Scheduling.{makes, weight as weightOf};
 ghost use Rattle.rules.specs.Promises.{WellFormed};
-ghost use Rattle.model.specs.Layout.{jobOf, instanceFrom};
+ghost use Rattle.model.specs.Layout.{instanceOf};
 ghost use Rattle.ranking.specs.Weights.{WeightsFrom};
 use model::choice::greater;
-use model::choice::when;
+use model::choice::value_if;
 use model::layout;
 use model::layout::Shape;
 use rules::Board;
@@ -21,16 +21,16 @@ fn heaviest_reader<'a>(
     weights: &'a [u64; Board::MAX_TASKS],
     i: usize,
 ) -> u64
-    requires { ⌜ WellFormed (instanceFrom shape (jobOf (now job))) ⌝ }
-    requires { ⌜ WeightsFrom (instanceFrom shape (jobOf (now job))) (now weights) (i + 1) ⌝ }
-    ensures { λ r. ⌜ r ≡ maxWhere (fileCount (instanceFrom shape (jobOf (now (job .entry))))) (makes (instanceFrom shape (jobOf (now (job .entry)))) i) (λ k. moveTimeAt (instanceFrom shape (jobOf (now (job .entry)))) k + weightOf (instanceFrom shape (jobOf (now (job .entry)))) (fileAt (instanceFrom shape (jobOf (now (job .entry)))) k .reader)) ⌝ }
+    requires { ⌜ WellFormed (instanceOf shape (now job)) ⌝ }
+    requires { ⌜ WeightsFrom (instanceOf shape (now job)) (now weights) (i + 1) ⌝ }
+    ensures { λ r. ⌜ r ≡ maxWhere (fileCount (instanceOf shape (now (job .entry)))) (makes (instanceOf shape (now (job .entry))) i) (λ k. moveTimeAt (instanceOf shape (now (job .entry))) k + weightOf (instanceOf shape (now (job .entry))) (fileAt (instanceOf shape (now (job .entry))) k .reader)) ⌝ }
 {
     let mut most: u64 = 0;
     let mut k: usize = 0;
     while k < shape.files {
         let d = layout::reader(job, k) as usize;
         let path = layout::move_time(job, k) + weights[d];
-        most = greater(most, when(layout::maker(job, k) == i as u64, path));
+        most = greater(most, value_if(layout::maker(job, k) == i as u64, path));
         k += 1;
     }
     most
@@ -38,8 +38,8 @@ fn heaviest_reader<'a>(
 
 // The weight of each task, from the last task down: a file's reader comes behind its maker.
 pub fn weights(shape: Shape, job: &[u64; layout::JOB]) -> [u64; Board::MAX_TASKS]
-    requires { ⌜ WellFormed (instanceFrom shape (jobOf (now job))) ⌝ }
-    ensures { λ r. ⌜ ((i : ℕ) → i < shape .tasks → getD r i 0 ≡ weightOf (instanceFrom shape (jobOf (now (job .entry)))) i) ⌝ }
+    requires { ⌜ WellFormed (instanceOf shape (now job)) ⌝ }
+    ensures { λ r. ⌜ ((i : ℕ) → i < shape .tasks → getD r i 0 ≡ weightOf (instanceOf shape (now (job .entry))) i) ⌝ }
 {
     let mut all = [0; Board::MAX_TASKS];
     let mut i = shape.tasks;

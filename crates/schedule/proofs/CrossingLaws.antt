@@ -9,15 +9,15 @@ use Rattle.rules.specs.Count.{listBelow}
 use Rattle.rules.specs.Model.{sameColour, Run, unplaced, Schedule, runAt, moved}
 use Rattle.rules.proofs.CountLaws.{getD-listBelow}
 use Rattle.model.specs.declared.layout.Shape.{Shape}
-use Rattle.model.specs.Layout.{Job, Plan, runFrom, instanceFrom, scheduleFrom, colourBy, JobBounds}
+use Rattle.model.specs.Layout.{Job, Entries, runFrom, instanceFrom, scheduleFrom, colourBy, JobBounds}
 use Rattle.model.proofs.LayoutLaws.{file-at, processors-of}
 use Rattle.schedule.proofs.StoreLaws.{movesOf}
 
-runs-from : (b : Shape) (L : Plan) → scheduleFrom b L .runs ≡ listBelow (b .tasks) (runFrom L)
+runs-from : (b : Shape) (L : Entries) → scheduleFrom b L .runs ≡ listBelow (b .tasks) (runFrom L)
 unfolding scheduleFrom
 runs-from b L = refl
 
-module _ {b : Shape} {J : Job} (f : JobBounds b J) (L : Plan) {k : ℕ} (h : k < b .files) {m d : ℕ} {r : Bool} (p : m ≡ J .maker k) (q : d ≡ J .reader k)
+module _ {b : Shape} {J : Job} (f : JobBounds b J) (L : Entries) {k : ℕ} (h : k < b .files) {m d : ℕ} {r : Bool} (p : m ≡ J .maker k) (q : d ≡ J .reader k)
     (e : r ≡ not (sameColour (colourBy (leb (L .processor m) (b .board .blue .processors))) (colourBy (leb (L .processor d) (b .board .blue .processors))))) where
   module _ (P : Schedule) (same : P .runs ≡ listBelow (b .tasks) (runFrom L)) where
     run-of : (i : ℕ) → i < b .tasks → runAt P i ≡ runFrom L i

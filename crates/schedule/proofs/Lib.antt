@@ -5,7 +5,7 @@ pub mod LineLaws
 pub mod CutLaws
 -- the due lines
 pub mod DueLaws
--- what the plan holds
+-- what the schedule holds
 pub mod StoreLaws
 pub mod CrossingLaws
 -- the loops

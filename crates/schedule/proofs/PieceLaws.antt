@@ -12,7 +12,7 @@ use Rattle.rules.specs.Validity.{Claim}
 use Rattle.rules.specs.ScheduleText.{runLine, moveLine, claimLine, scheduleBytes, runLines, moveLines, scheduleText}
 use Rattle.rules.proofs.ScheduleTextLaws.{moveBytes, runs-next, moves-more, text-parts}
 use Rattle.model.specs.declared.layout.Shape.{Shape}
-use Rattle.model.specs.Layout.{Job, Plan, instanceFrom, scheduleFrom}
+use Rattle.model.specs.Layout.{Job, Entries, instanceFrom, scheduleFrom}
 use Rattle.model.proofs.LayoutLaws.{task-count, file-count, maker-at, reader-at, run-at, move-at}
 
 -- the piece of task i, and the piece of file k
@@ -29,11 +29,11 @@ pub moves-grow : (I : Instance) (P : Schedule) (k : ℕ) → moveLines I P (suc 
 moves-grow I P k = moves-more I P k
 
 -- ---- from what the code reads
-pub run-piece : (b : Shape) (L : Plan) {i : ℕ} → i < b .tasks → (p s : ℕ) → p ≡ L .processor i → s ≡ L .start i
+pub run-piece : (b : Shape) (L : Entries) {i : ℕ} → i < b .tasks → (p s : ℕ) → p ≡ L .processor i → s ≡ L .start i
     → scheduleBytes (runLine (i + 1) (record { processor = p; start = s })) ++ lf ≡ runPiece (scheduleFrom b L) i
 run-piece b L {i} h p s u v = rw (add-one i, u, v, run-at b L i h)
 
-module _ (b : Shape) (J : Job) (L : Plan) {k : ℕ} (h : k < b .files) where
+module _ (b : Shape) (J : Job) (L : Entries) {k : ℕ} (h : k < b .files) where
   pub move-piece : (m d t : ℕ) → m ≡ J .maker k → d ≡ J .reader k → t ≡ L .moveStart k → moved (instanceFrom b J) (scheduleFrom b L) k ≡ true
       → scheduleBytes (moveLine (m + 1) (d + 1) t) ++ lf ≡ movePiece (instanceFrom b J) (scheduleFrom b L) k
   move-piece m d t u v w e = rw (e, maker-at b J k h, reader-at b J k h, move-at b L k h, u, v, w, add-one (J .maker k), add-one (J .reader k))
@@ -42,7 +42,7 @@ module _ (b : Shape) (J : Job) (L : Plan) {k : ℕ} (h : k < b .files) where
   no-piece e = rw e
 
 -- ---- the whole text
-pub text-pieces : (b : Shape) (J : Job) (L : Plan) (c : Claim) → let I = instanceFrom b J in let P = scheduleFrom b L in
+pub text-pieces : (b : Shape) (J : Job) (L : Entries) (c : Claim) → let I = instanceFrom b J in let P = scheduleFrom b L in
     scheduleText I P c ≡ (runLines P (b .tasks) ++ moveLines I P (b .files)) ++ (scheduleBytes (claimLine c) ++ lf)
 text-pieces b J L c =
     let I = instanceFrom b J in
@@ -55,7 +55,7 @@ pub record Fits (runs moves last : List ℕ) (n : ℕ) : Type 0 where
   pub second : length (runs ++ moves) ≤ n
   pub third : length ((runs ++ moves) ++ last) ≤ n
 
-module _ (b : Shape) (J : Job) (L : Plan) (c : Claim) where
+module _ (b : Shape) (J : Job) (L : Entries) (c : Claim) where
   abbrev I : Instance
   I = instanceFrom b J
 

@@ -1,4 +1,4 @@
--- The whole timetable: the runs, the moves and the claim, one after the other; and what a caller knows of the plan that was read.
+-- The whole timetable: the runs, the moves and the claim, one after the other; and what a caller knows of the schedule that was read.
 use Prim.Native.Nat.{ℕ, suc, _≤_, _<_}
 use mathlib.Core.Path.{_≡_, sym, ap, subst, _∙_}
 use mathlib.Core.List.{List}
@@ -14,7 +14,7 @@ use Rattle.rules.proofs.TimetableOnlyLaws.{read-only}
 use Rattle.text.specs.declared.faults.Fault.{Fault}
 use Rattle.text.specs.Faults.{asFault}
 use Rattle.model.specs.declared.layout.Shape.{Shape}
-use Rattle.model.specs.Layout.{Job, Plan, instanceFrom, scheduleFrom}
+use Rattle.model.specs.Layout.{Job, Entries, instanceFrom, scheduleFrom}
 use Rattle.schedule.specs.declared.reader.Progress.{Progress}
 use Rattle.schedule.specs.declared.reader.Progress.the-variants.{At, Refused}
 use Rattle.schedule.specs.Reading.{goesOn, InText, nothing}
@@ -51,6 +51,6 @@ module _ (I : Instance) (bs : List ℕ) where
         claim-answers end j m x c = from-moves (c ∙ ap (goesOn (readClaim I P) bs) (sym m))
 
 -- ---- what is read is complete, with every number in its range
-module _ (b : Shape) (J : Job) (L : Plan) (c : Claim) where
+module _ (b : Shape) (J : Job) (L : Entries) (c : Claim) where
   pub read-spellable : (bs : List ℕ) → readSchedule (instanceFrom b J) bs ≡ read (scheduleFrom b L) c → Spellable (instanceFrom b J) (scheduleFrom b L) c
   read-spellable bs e = read-only (instanceFrom b J) (scheduleFrom b L) c bs e .0

@@ -23,7 +23,7 @@ use Rattle.text.specs.declared.faults.Fault.{Fault as CodeFault}
 use Rattle.text.specs.Faults.{asFault}
 use Rattle.text.proofs.FirstLineLaws.{no-line}
 use Rattle.model.specs.declared.layout.Shape.{Shape}
-use Rattle.model.specs.Layout.{Job, Plan, planOf, instanceFrom, scheduleFrom, JobBounds}
+use Rattle.model.specs.Layout.{Job, Entries, entriesOf, instanceFrom, scheduleFrom, JobBounds}
 use Rattle.model.proofs.LayoutLaws.{task-count, file-count, maker-at, reader-at}
 use Rattle.schedule.proofs.lines.Line.{the-type}
 use Rattle.model.specs.declared.claim.Claim.{Claim as Numbers}
@@ -65,31 +65,31 @@ module _ {I : Instance} {bs : List ℕ} {at next : ℕ} (said : Said) (o : LineA
     claim-last h = sym (claim-then ∙ ap (readEnd I P (asClaim c) (suc k)) (no-line-left bs next h) ∙ end-read I P (asClaim c) (suc k))
 
 -- ---- the runs of the first i tasks are read
-pub record RunsRead (b : Shape) (bs plan : List ℕ) (at i : ℕ) : Type 0 where
+pub record RunsRead (b : Shape) (bs schedule : List ℕ) (at i : ℕ) : Type 0 where
   pub passed : i ≤ b .tasks
   pub within : at ≤ length bs
   pub left : (J : Job) → let I = instanceFrom b J in
-      readRuns I (taskCount I) nothing 1 (linesOf bs) ≡ readRuns I (taskCount I - i) (runsOf i (planOf plan)) (suc i) (linesOf (drop at bs))
+      readRuns I (taskCount I) nothing 1 (linesOf bs) ≡ readRuns I (taskCount I - i) (runsOf i (entriesOf schedule)) (suc i) (linesOf (drop at bs))
 
-pub runs-start : (b : Shape) (bs plan : List ℕ) → RunsRead b bs plan 0 0
+pub runs-start : (b : Shape) (bs schedule : List ℕ) → RunsRead b bs schedule 0 0
 unfolding listBelow
-runs-start b bs plan = record { passed = omega arith; within = omega arith; left = λ J. rw sub-zero }
+runs-start b bs schedule = record { passed = omega arith; within = omega arith; left = λ J. rw sub-zero }
 
 runs-done : (I : Instance) (P : Schedule) (k : ℕ) (ls : List Line) → readRuns I 0 P k ls ≡ readMoves I (fileCount I) P k ls
 unfolding readRuns
 runs-done I P k ls = refl
 
-module _ {b : Shape} {bs plan : List ℕ} {at i : ℕ} (q : RunsRead b bs plan at i) where
+module _ {b : Shape} {bs schedule : List ℕ} {at i : ℕ} (q : RunsRead b bs schedule at i) where
   pub runs-end : b .tasks ≤ i → (J : Job) → let I = instanceFrom b J in
-      readMoves I (fileCount I) (runsOf (b .tasks) (planOf plan)) (i + 1) (linesOf (drop at bs)) ≡ readRuns I (taskCount I) nothing 1 (linesOf bs)
+      readMoves I (fileCount I) (runsOf (b .tasks) (entriesOf schedule)) (i + 1) (linesOf (drop at bs)) ≡ readRuns I (taskCount I) nothing 1 (linesOf bs)
   runs-end h J =
       let I = instanceFrom b J in
       let z : taskCount I - i ≡ 0 = omega (arith, task-count b J) in
       let e : i ≡ b .tasks = omega (arith, q .passed) in
       let ls = linesOf (drop at bs) in
       sym
-      (q .left J ∙ ap (λ (n : ℕ). readRuns I n (runsOf i (planOf plan)) (suc i) ls) z ∙ runs-done I (runsOf i (planOf plan)) (suc i) ls
-      ∙ ap₂ (λ (n k : ℕ). readMoves I (fileCount I) (runsOf n (planOf plan)) k ls) e (sym (add-one i)))
+      (q .left J ∙ ap (λ (n : ℕ). readRuns I n (runsOf i (entriesOf schedule)) (suc i) ls) z ∙ runs-done I (runsOf i (entriesOf schedule)) (suc i) ls
+      ∙ ap₂ (λ (n k : ℕ). readMoves I (fileCount I) (runsOf n (entriesOf schedule)) k ls) e (sym (add-one i)))
 
   module _ (h : i < b .tasks) (J : Job) (said : Said) {next : ℕ} (o : LineAt (instanceFrom b J) bs at (asReading said) next) where
     abbrev I : Instance
@@ -99,7 +99,7 @@ module _ {b : Shape} {bs plan : List ℕ} {at i : ℕ} (q : RunsRead b bs plan a
     in-tasks = omega (arith, task-count b J)
 
     refused-run : (w : Fault) → due (runOf (suc i)) (asReading said) ≡ wrong w → refused w (i + 1) ≡ readRuns I (taskCount I) nothing 1 (linesOf bs)
-    refused-run w e = rw (add-one i) (sym (q .left J ∙ run-refused o (runsOf i (planOf plan)) (suc i) i in-tasks w e))
+    refused-run w e = rw (add-one i) (sym (q .left J ∙ run-refused o (runsOf i (entriesOf schedule)) (suc i) i in-tasks w e))
 
     pub runs-other : OneOf (1 ∷ 2 ∷ 3 ∷ 4 ∷ []) (tagOf the-type said) → (w : Fault) → w ≡ faultOf (asReading said)
         → refused w (i + 1) ≡ readRuns I (taskCount I) nothing 1 (linesOf bs)
@@ -112,16 +112,16 @@ module _ {b : Shape} {bs plan : List ℕ} {at i : ℕ} (q : RunsRead b bs plan a
       run-due : j ≡ i + 1 → due (runOf (suc i)) (asReading said) ≡ right (record { processor = p; start = s })
       run-due z = let m : eqb j (suc i) ≡ true = eq-eqb j (suc i) (z ∙ add-one i) in rw (e, m)
 
-      run-on : j ≡ i + 1 → b .tasks ≤ maxTasks → length plan ≡ 2 * maxTasks + maxFiles
+      run-on : j ≡ i + 1 → b .tasks ≤ maxTasks → length schedule ≡ 2 * maxTasks + maxFiles
           → readRuns I (taskCount I) nothing 1 (linesOf bs)
-          ≡ readRuns I (taskCount I - suc i) (runsOf (suc i) (planOf (set (set plan i p) (maxTasks + i) s))) (suc (suc i)) (linesOf (drop next bs))
+          ≡ readRuns I (taskCount I - suc i) (runsOf (suc i) (entriesOf (set (set schedule i p) (maxTasks + i) s))) (suc (suc i)) (linesOf (drop next bs))
       run-on z few long =
-          q .left J ∙ run-taken o (runsOf i (planOf plan)) (suc i) i in-tasks _ (run-due z)
-          ∙ ap (λ P. readRuns I (taskCount I - suc i) P (suc (suc i)) (linesOf (drop next bs))) (sym (run-stored plan long i p s (omega arith)))
+          q .left J ∙ run-taken o (runsOf i (entriesOf schedule)) (suc i) i in-tasks _ (run-due z)
+          ∙ ap (λ P. readRuns I (taskCount I - suc i) P (suc (suc i)) (linesOf (drop next bs))) (sym (run-stored schedule long i p s (omega arith)))
 
-  pub runs-next : i < b .tasks → b .tasks ≤ maxTasks → length plan ≡ 2 * maxTasks + maxFiles → (said : Said) (next j p s : ℕ) → next ≤ length bs
+  pub runs-next : i < b .tasks → b .tasks ≤ maxTasks → length schedule ≡ 2 * maxTasks + maxFiles → (said : Said) (next j p s : ℕ) → next ≤ length bs
       → ((J : Job) → LineAt (instanceFrom b J) bs at (asReading said) next) → said ≡ Code.Run j p s → j ≡ i + 1
-      → (once twice : List ℕ) → once ≡ set plan i p → twice ≡ set once (maxTasks + i) s → RunsRead b bs twice next (i + 1)
+      → (once twice : List ℕ) → once ≡ set schedule i p → twice ≡ set once (maxTasks + i) s → RunsRead b bs twice next (i + 1)
   runs-next h few long said next j p s n o e z once twice u v =
       rw (add-one i, v, u)
       (record {
@@ -160,34 +160,34 @@ module _ {I : Instance} {bs : List ℕ} {at next : ℕ} (said : Said) (o : LineA
         told (right t) (rw (e, z, w))
 
 -- ---- the moves of the first i files are read, from the line that starts at `from`, with the number `line`, on
-pub record MovesRead (b : Shape) (J : Job) (bs old plan : List ℕ) (from line at k i : ℕ) : Type 0 where
+pub record MovesRead (b : Shape) (J : Job) (bs old schedule : List ℕ) (from line at k i : ℕ) : Type 0 where
   pub passed : i ≤ b .files
   pub within : at ≤ length bs
   pub few : k ≤ line + i
   pub left : let I = instanceFrom b J in
-      readMoves I (fileCount I) (runsOf (b .tasks) (planOf old)) line (linesOf (drop from bs))
-      ≡ readMoves I (fileCount I - i) (movesOf (b .tasks) i (planOf plan)) k (linesOf (drop at bs))
+      readMoves I (fileCount I) (runsOf (b .tasks) (entriesOf old)) line (linesOf (drop from bs))
+      ≡ readMoves I (fileCount I - i) (movesOf (b .tasks) i (entriesOf schedule)) k (linesOf (drop at bs))
 
-pub moves-start : (b : Shape) (J : Job) (bs plan : List ℕ) (from line : ℕ) → from ≤ length bs → MovesRead b J bs plan plan from line from line 0
+pub moves-start : (b : Shape) (J : Job) (bs schedule : List ℕ) (from line : ℕ) → from ≤ length bs → MovesRead b J bs schedule schedule from line from line 0
 unfolding listBelow
-moves-start b J bs plan from line h = record { passed = omega arith; within = h; few = omega arith; left = rw sub-zero }
+moves-start b J bs schedule from line h = record { passed = omega arith; within = h; few = omega arith; left = rw sub-zero }
 
 moves-done : (I : Instance) (P : Schedule) (k : ℕ) (ls : List Line) → readMoves I 0 P k ls ≡ readClaim I P k ls
 unfolding readMoves
 moves-done I P k ls = refl
 
-all-moves : (b : Shape) (L : Plan) → movesOf (b .tasks) (b .files) L ≡ scheduleFrom b L
+all-moves : (b : Shape) (L : Entries) → movesOf (b .tasks) (b .files) L ≡ scheduleFrom b L
 unfolding scheduleFrom
 all-moves b L = refl
 
-module _ {b : Shape} {J : Job} {bs old plan : List ℕ} {from line at k i : ℕ} (q : MovesRead b J bs old plan from line at k i) where
+module _ {b : Shape} {J : Job} {bs old schedule : List ℕ} {from line at k i : ℕ} (q : MovesRead b J bs old schedule from line at k i) where
   abbrev whole : ScheduleRead
-  whole = readMoves (instanceFrom b J) (fileCount (instanceFrom b J)) (runsOf (b .tasks) (planOf old)) line (linesOf (drop from bs))
+  whole = readMoves (instanceFrom b J) (fileCount (instanceFrom b J)) (runsOf (b .tasks) (entriesOf old)) line (linesOf (drop from bs))
 
-  pub moves-end : b .files ≤ i → readClaim (instanceFrom b J) (scheduleFrom b (planOf plan)) k (linesOf (drop at bs)) ≡ whole
+  pub moves-end : b .files ≤ i → readClaim (instanceFrom b J) (scheduleFrom b (entriesOf schedule)) k (linesOf (drop at bs)) ≡ whole
   moves-end h =
       let I = instanceFrom b J in
-      let L = planOf plan in
+      let L = entriesOf schedule in
       let ls = linesOf (drop at bs) in
       let z : fileCount I - i ≡ 0 = omega (arith, file-count b J) in
       let e : i ≡ b .files = omega (arith, q .passed) in
@@ -200,7 +200,7 @@ module _ {b : Shape} {J : Job} {bs old plan : List ℕ} {from line at k i : ℕ}
     JI = instanceFrom b J
 
     abbrev soFar : Schedule
-    soFar = movesOf (b .tasks) i (planOf plan)
+    soFar = movesOf (b .tasks) i (entriesOf schedule)
 
     in-files : i < fileCount JI
     in-files = omega (arith, file-count b J)
@@ -218,8 +218,8 @@ module _ {b : Shape} {J : Job} {bs old plan : List ℕ} {from line at k i : ℕ}
           let (next, d) = subst Here e t in
           sym (q .left ∙ move-refused (d .read) soFar k i in-files m (asFault w) (ap (λ f. due f (d .line)) (sym (file-due maker reader u v)) ∙ d .due))
 
-      pub moves-next : (r : MoveRead) → Here r → (t next : ℕ) → r ≡ Move.Start t next → JobBounds b J → length plan ≡ 2 * maxTasks + maxFiles
-          → (new : List ℕ) → new ≡ set plan (2 * maxTasks + i) t → MovesRead b J bs old new from line next (k + 1) (i + 1)
+      pub moves-next : (r : MoveRead) → Here r → (t next : ℕ) → r ≡ Move.Start t next → JobBounds b J → length schedule ≡ 2 * maxTasks + maxFiles
+          → (new : List ℕ) → new ≡ set schedule (2 * maxTasks + i) t → MovesRead b J bs old new from line next (k + 1) (i + 1)
       moves-next r o t next e bounds long new stored =
           let (d, n) = subst Here e o in
           rw (add-one i, add-one k, stored)
@@ -229,10 +229,10 @@ module _ {b : Shape} {J : Job} {bs old plan : List ℕ} {from line at k i : ℕ}
             few = omega (arith, q .few);
             left =
                 q .left ∙ move-taken (d .read) soFar k i in-files m t (ap (λ f. due f (d .line)) (sym (file-due maker reader u v)) ∙ d .due)
-                ∙ ap (λ P. readMoves JI (fileCount JI - suc i) P (suc k) (linesOf (drop next bs))) (sym (move-stored plan long i t (omega (arith, bounds .files)) (b .tasks) (bounds .tasks)));
+                ∙ ap (λ P. readMoves JI (fileCount JI - suc i) P (suc k) (linesOf (drop next bs))) (sym (move-stored schedule long i t (omega (arith, bounds .files)) (b .tasks) (bounds .tasks)));
           })
 
-    pub moves-skip : moved JI soFar i ≡ false → JobBounds b J → length plan ≡ 2 * maxTasks + maxFiles → (new : List ℕ) → new ≡ set plan (2 * maxTasks + i) 0
+    pub moves-skip : moved JI soFar i ≡ false → JobBounds b J → length schedule ≡ 2 * maxTasks + maxFiles → (new : List ℕ) → new ≡ set schedule (2 * maxTasks + i) 0
         → MovesRead b J bs old new from line at k (i + 1)
     moves-skip m bounds long new stored =
         rw (add-one i, stored)
@@ -242,5 +242,5 @@ module _ {b : Shape} {J : Job} {bs old plan : List ℕ} {from line at k i : ℕ}
           few = omega (arith, q .few);
           left =
               q .left ∙ move-passed JI soFar k i in-files m (linesOf (drop at bs))
-              ∙ ap (λ P. readMoves JI (fileCount JI - suc i) P k (linesOf (drop at bs))) (sym (move-stored plan long i 0 (omega (arith, bounds .files)) (b .tasks) (bounds .tasks)));
+              ∙ ap (λ P. readMoves JI (fileCount JI - suc i) P k (linesOf (drop at bs))) (sym (move-stored schedule long i 0 (omega (arith, bounds .files)) (b .tasks) (bounds .tasks)));
         })

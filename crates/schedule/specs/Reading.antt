@@ -10,7 +10,7 @@ use Rattle.rules.specs.Text.{Line, linesOf, Reading, wrong, right, malformed, d
 use Rattle.rules.specs.ScheduleText as Rules
 use Rattle.rules.specs.ScheduleText.{ScheduleLine, scheduleLine}
 use Rattle.text.specs.Faults.{asFault}
-use Rattle.model.specs.Layout.{Plan, runFrom}
+use Rattle.model.specs.Layout.{Entries, runFrom}
 use Rattle.schedule.specs.declared.reader.ScheduleRead.{ScheduleRead}
 use Rattle.schedule.specs.declared.reader.ScheduleRead.the-variants as Answer
 use Rattle.schedule.specs.declared.reader.Progress.{Progress}
@@ -19,7 +19,7 @@ use Rattle.schedule.specs.declared.reader.MoveRead.{MoveRead}
 use Rattle.schedule.specs.declared.reader.MoveRead.the-variants as Move
 use Rattle.model.specs.Claims.{asClaim}
 
--- the answer, as the rules have it, with the schedule that the plan then holds
+-- the answer, as the rules have it, with the schedule that the schedule then holds
 abbrev pub asRead : Schedule → ScheduleRead → Rules.ScheduleRead
 asRead P (Answer.Read c) = Rules.read P (asClaim c)
 asRead P (Answer.Refused f k) = Rules.refused (asFault f) k
@@ -53,5 +53,5 @@ abbrev pub nothing : Schedule
 nothing = record { runs = []; moves = [] }
 
 -- the runs of the first n tasks
-abbrev pub runsOf : ℕ → Plan → Schedule
+abbrev pub runsOf : ℕ → Entries → Schedule
 runsOf n L = record { runs = listBelow n (runFrom L); moves = [] }

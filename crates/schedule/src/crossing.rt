@@ -5,18 +5,18 @@ ghost use Prim.Native.Nat.{_<_};
 ghost use lib.Dec.{leb};
 ghost use Rattle.rules.specs.Limits.{maxTasks};
 ghost use Rattle.rules.specs.Model.{sameColour};
-ghost use Rattle.model.specs.Layout.{planOf, colourBy};
+ghost use Rattle.model.specs.Layout.{entriesOf, colourBy};
 use model::layout;
 use model::layout::Shape;
-use model::residency::same;
+use model::residency::same_colour;
 
 // Whether tasks i and j run in memories of different colour.
-pub fn crosses(shape: Shape, plan: &[u64; layout::PLAN], i: usize, j: usize) -> bool
+pub fn crosses(shape: Shape, schedule: &[u64; layout::SCHEDULE], i: usize, j: usize) -> bool
     requires { ⌜ (i < maxTasks) × (j < maxTasks) ⌝ }
-    ensures { λ r. ⌜ r ≡ not (sameColour (colourBy (leb (planOf (now (plan .entry)) .processor i) (shape .board .blue .processors))) (colourBy (leb (planOf (now (plan .entry)) .processor j) (shape .board .blue .processors)))) ⌝ }
+    ensures { λ r. ⌜ r ≡ not (sameColour (colourBy (leb (entriesOf (now (schedule .entry)) .processor i) (shape .board .blue .processors))) (colourBy (leb (entriesOf (now (schedule .entry)) .processor j) (shape .board .blue .processors)))) ⌝ }
 {
-    !same(
-        layout::on_blue(shape, plan, i),
-        layout::on_blue(shape, plan, j),
+    !same_colour(
+        layout::on_blue(shape, schedule, i),
+        layout::on_blue(shape, schedule, j),
     )
 }

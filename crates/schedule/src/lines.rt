@@ -32,7 +32,7 @@ pub enum Line {
 }
 
 // Whether all three hold.
-fn all(a: bool, b: bool, c: bool) -> bool
+fn all_three(a: bool, b: bool, c: bool) -> bool
     ensures { λ r. ⌜ r ≡ a && b && c ⌝ }
 {
     if a {
@@ -49,7 +49,7 @@ fn run_of(shape: Shape, i: u64, processor: u64, start: u64) -> Line
     ensures { λ r. ⌜ ((J : Job) → asReading r ≡ asRun (instanceFrom shape J) (i ∷ processor ∷ start ∷ [])) ⌝ }
 {
     let processors = shape.board.blue.processors + shape.board.red.processors;
-    if all(
+    if all_three(
         between(i, Board::MIN_TASK, Board::MAX_TASK),
         between(processor, 1, processors),
         between(start, Board::MIN_TICK, Board::MAX_TICK),
@@ -67,7 +67,7 @@ fn run_of(shape: Shape, i: u64, processor: u64, start: u64) -> Line
 fn move_of(i: u64, j: u64, start: u64) -> Line
     ensures { λ r. ⌜ asReading r ≡ asMove (i ∷ j ∷ start ∷ []) ⌝ }
 {
-    if all(
+    if all_three(
         between(i, Board::MIN_TASK, Board::MAX_TASK),
         between(j, Board::MIN_TASK, Board::MAX_TASK),
         between(start, Board::MIN_TICK, Board::MAX_TICK),
@@ -81,7 +81,7 @@ fn move_of(i: u64, j: u64, start: u64) -> Line
 fn claim_of(span: u64, blue_peak: u64, red_peak: u64) -> Line
     ensures { λ r. ⌜ asReading r ≡ claimFrom (span ∷ «blue_peak» ∷ «red_peak» ∷ []) ⌝ }
 {
-    if all(
+    if all_three(
         between(span, Board::MIN_TICK, Board::MAX_TICK),
         between(blue_peak, Board::MIN_TICK, Board::MAX_TICK),
         between(red_peak, Board::MIN_TICK, Board::MAX_TICK),

@@ -6,7 +6,7 @@ ghost use Rattle.rules.specs.Limits.{maxTasks, maxFiles};
 ghost use Rattle.rules.specs.Model.{Schedule, taskCount, fileCount};
 ghost use Rattle.rules.specs.Text.{linesOf};
 ghost use Rattle.rules.specs.ScheduleText.{moveOf, readClaim, readMoves, readRuns, readSchedule};
-ghost use Rattle.model.specs.Layout.{Job, jobOf, planOf, instanceFrom, scheduleFrom, JobBounds, Processors};
+ghost use Rattle.model.specs.Layout.{Job, entriesOf, instanceFrom, instanceOf, scheduleOf, Processors, JobInBounds};
 ghost use Rattle.schedule.specs.Lines.{asReading};
 ghost use Rattle.schedule.specs.Reading.{LineAt, Taken, asRead, goesOn, InText, nothing, runsOf};
 use crate::crossing::crosses;
@@ -64,19 +64,19 @@ fn line_at(shape: Shape, paper: &[u8], at: usize) -> Cut
     }
 }
 
-// Stores a number in a plan array. Lent as a slice, the array shows how long it is.
-fn store(plan: &mut [u64], at: usize, number: u64)
-    requires { ⌜ at < length (now plan) ⌝ }
-    ensures { λ _. ⌜ now (plan .exit) ≡ set (now (plan .entry)) at number ⌝ }
+// Stores a number in a schedule array. Lent as a slice, the array shows how long it is.
+fn store(schedule: &mut [u64], at: usize, number: u64)
+    requires { ⌜ at < length (now schedule) ⌝ }
+    ensures { λ _. ⌜ now (schedule .exit) ≡ set (now (schedule .entry)) at number ⌝ }
 {
-    plan[at] = number;
+    schedule[at] = number;
 }
 
-// Reads the runs, a line for each task, into the plan.
-fn read_runs(shape: Shape, paper: &[u8], plan: &mut [u64; layout::PLAN]) -> Progress
+// Reads the runs, a line for each task, into the schedule.
+fn read_runs(shape: Shape, paper: &[u8], schedule: &mut [u64; layout::SCHEDULE]) -> Progress
     requires { ⌜ Processors shape ⌝ }
     requires { ⌜ shape .tasks ≤ maxTasks ⌝ }
-    ensures { λ r. ⌜ ((J : Job) → goesOn (readMoves (instanceFrom shape J) (fileCount (instanceFrom shape J)) (runsOf (shape .tasks) (planOf (now (plan .exit))))) (now (paper .entry)) r ≡ readRuns (instanceFrom shape J) (taskCount (instanceFrom shape J)) nothing 1 (linesOf (now (paper .entry)))) ⌝ }
+    ensures { λ r. ⌜ ((J : Job) → goesOn (readMoves (instanceFrom shape J) (fileCount (instanceFrom shape J)) (runsOf (shape .tasks) (entriesOf (now (schedule .exit))))) (now (paper .entry)) r ≡ readRuns (instanceFrom shape J) (taskCount (instanceFrom shape J)) nothing 1 (linesOf (now (paper .entry)))) ⌝ }
     ensures { λ r. ⌜ InText (now (paper .entry)) maxTasks r ⌝ }
 {
     let mut at = 0;
@@ -96,8 +96,8 @@ fn read_runs(shape: Shape, paper: &[u8], plan: &mut [u64; layout::PLAN]) -> Prog
         if task != k {
             return Progress::Refused(Fault::Undue, k);
         }
-        store(plan, i, processor);
-        store(plan, layout::START + i, start);
+        store(schedule, i, processor);
+        store(schedule, layout::START + i, start);
         at = cut.next;
         i += 1;
     }
@@ -125,19 +125,19 @@ fn move_at(shape: Shape, paper: &[u8], at: usize, maker: u64, reader: u64) -> Mo
     MoveRead::Start(start, cut.next)
 }
 
-// Reads the moves into the plan, from `from` on: a line, the first of which has the number `line`, for each file
+// Reads the moves into the schedule, from `from` on: a line, the first of which has the number `line`, for each file
 // whose tasks run in memories of different colour. The move start of any other file is 0.
 fn read_moves<'a>(
     shape: Shape,
     job: &'a [u64; layout::JOB],
     paper: &'a [u8],
-    plan: &mut [u64; layout::PLAN],
+    schedule: &mut [u64; layout::SCHEDULE],
     from: usize,
     line: u64,
 ) -> Progress
-    requires { ⌜ JobBounds shape (jobOf (now job)) ⌝ }
+    requires { ⌜ JobInBounds shape (now job) ⌝ }
     requires { ⌜ (from ≤ length (now paper)) × (line ≤ maxTasks + 1) ⌝ }
-    ensures { λ r. ⌜ goesOn (readClaim (instanceFrom shape (jobOf (now (job .entry)))) (scheduleFrom shape (planOf (now (plan .exit))))) (now (paper .entry)) r ≡ readMoves (instanceFrom shape (jobOf (now (job .entry)))) (fileCount (instanceFrom shape (jobOf (now (job .entry))))) (runsOf (shape .tasks) (planOf (now (plan .entry)))) line (linesOf (drop from (now (paper .entry)))) ⌝ }
+    ensures { λ r. ⌜ goesOn (readClaim (instanceOf shape (now (job .entry))) (scheduleOf shape (now (schedule .exit)))) (now (paper .entry)) r ≡ readMoves (instanceOf shape (now (job .entry))) (fileCount (instanceOf shape (now (job .entry)))) (runsOf (shape .tasks) (entriesOf (now (schedule .entry)))) line (linesOf (drop from (now (paper .entry)))) ⌝ }
     ensures { λ r. ⌜ InText (now (paper .entry)) (maxTasks + maxFiles) r ⌝ }
 {
     let mut at = from;
@@ -146,18 +146,18 @@ fn read_moves<'a>(
     while i < shape.files {
         let maker = layout::maker(job, i);
         let reader = layout::reader(job, i);
-        if crosses(shape, plan, maker as usize, reader as usize) {
+        if crosses(shape, schedule, maker as usize, reader as usize) {
             match move_at(shape, paper, at, maker, reader) {
                 MoveRead::Refused(fault) => return Progress::Refused(fault, k),
                 MoveRead::Start(start, next) => {
-                    store(plan, layout::MOVE_START + i, start);
+                    store(schedule, layout::MOVE_START + i, start);
                     at = next;
                     k += 1;
                     i += 1;
                 }
             }
         } else {
-            store(plan, layout::MOVE_START + i, 0);
+            store(schedule, layout::MOVE_START + i, 0);
             i += 1;
         }
     }
@@ -184,23 +184,23 @@ fn read_claim(shape: Shape, paper: &[u8], at: usize, k: u64) -> ScheduleRead
     ScheduleRead::Read(claim)
 }
 
-// Reads a timetable into the plan.
+// Reads a timetable into the schedule.
 pub fn read<'a>(
     shape: Shape,
     job: &'a [u64; layout::JOB],
     paper: &'a [u8],
-    plan: &mut [u64; layout::PLAN],
+    schedule: &mut [u64; layout::SCHEDULE],
 ) -> ScheduleRead
-    requires { ⌜ JobBounds shape (jobOf (now job)) ⌝ }
-    ensures { λ r. ⌜ asRead (scheduleFrom shape (planOf (now (plan .exit)))) r ≡ readSchedule (instanceFrom shape (jobOf (now (job .entry)))) (now (paper .entry)) ⌝ }
+    requires { ⌜ JobInBounds shape (now job) ⌝ }
+    ensures { λ r. ⌜ asRead (scheduleOf shape (now (schedule .exit))) r ≡ readSchedule (instanceOf shape (now (job .entry))) (now (paper .entry)) ⌝ }
 {
     if Board::MAX_TEXT < paper.len() {
         return ScheduleRead::Refused(Fault::TooLong, 0);
     }
-    match read_runs(shape, paper, plan) {
+    match read_runs(shape, paper, schedule) {
         Progress::Refused(fault, k) => ScheduleRead::Refused(fault, k),
         Progress::At(runs_end, runs_next) => {
-            match read_moves(shape, job, paper, plan, runs_end, runs_next) {
+            match read_moves(shape, job, paper, schedule, runs_end, runs_next) {
                 Progress::Refused(fault, k) => ScheduleRead::Refused(fault, k),
                 Progress::At(at, k) => read_claim(shape, paper, at, k),
             }

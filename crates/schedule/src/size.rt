@@ -6,7 +6,7 @@ ghost use lib.ListN.{length};
 ghost use Rattle.rules.specs.Limits.{maxTasks, maxFiles};
 ghost use Rattle.rules.specs.Text.{lf};
 ghost use Rattle.rules.specs.ScheduleText.{runLine, moveLine, claimLine, scheduleBytes, runLines, moveLines, scheduleText};
-ghost use Rattle.model.specs.Layout.{jobOf, planOf, instanceFrom, scheduleFrom, JobBounds};
+ghost use Rattle.model.specs.Layout.{instanceOf, scheduleOf, JobInBounds};
 ghost use Rattle.model.specs.Claims.{asClaim};
 ghost use Rattle.schedule.specs.Sizes.{longest};
 use crate::crossing::crosses;
@@ -45,9 +45,9 @@ fn claim_size(span: u64, blue: u64, red: u64) -> usize
 }
 
 // The bytes of all runs' lines.
-fn runs_size(shape: Shape, plan: &[u64; layout::PLAN]) -> usize
+fn runs_size(shape: Shape, schedule: &[u64; layout::SCHEDULE]) -> usize
     requires { ⌜ shape .tasks ≤ maxTasks ⌝ }
-    ensures { λ r. ⌜ r ≡ length (runLines (scheduleFrom shape (planOf (now (plan .entry)))) (shape .tasks)) ⌝ }
+    ensures { λ r. ⌜ r ≡ length (runLines (scheduleOf shape (now (schedule .entry))) (shape .tasks)) ⌝ }
     ensures { λ r. ⌜ r ≤ longest * maxTasks ⌝ }
 {
     let mut n: usize = 0;
@@ -55,8 +55,8 @@ fn runs_size(shape: Shape, plan: &[u64; layout::PLAN]) -> usize
     while i < shape.tasks {
         n += run_size(
             (i + 1) as u64,
-            layout::processor(plan, i),
-            layout::start(plan, i),
+            layout::processor(schedule, i),
+            layout::start(schedule, i),
         );
         i += 1;
     }
@@ -64,9 +64,13 @@ fn runs_size(shape: Shape, plan: &[u64; layout::PLAN]) -> usize
 }
 
 // The bytes of all moves' lines.
-fn moves_size<'a>(shape: Shape, job: &'a [u64; layout::JOB], plan: &'a [u64; layout::PLAN]) -> usize
-    requires { ⌜ JobBounds shape (jobOf (now job)) ⌝ }
-    ensures { λ r. ⌜ r ≡ length (moveLines (instanceFrom shape (jobOf (now (job .entry)))) (scheduleFrom shape (planOf (now (plan .entry)))) (shape .files)) ⌝ }
+fn moves_size<'a>(
+    shape: Shape,
+    job: &'a [u64; layout::JOB],
+    schedule: &'a [u64; layout::SCHEDULE],
+) -> usize
+    requires { ⌜ JobInBounds shape (now job) ⌝ }
+    ensures { λ r. ⌜ r ≡ length (moveLines (instanceOf shape (now (job .entry))) (scheduleOf shape (now (schedule .entry))) (shape .files)) ⌝ }
     ensures { λ r. ⌜ r ≤ longest * maxFiles ⌝ }
 {
     let mut n: usize = 0;
@@ -74,8 +78,8 @@ fn moves_size<'a>(shape: Shape, job: &'a [u64; layout::JOB], plan: &'a [u64; lay
     while k < shape.files {
         let maker = layout::maker(job, k);
         let reader = layout::reader(job, k);
-        if crosses(shape, plan, maker as usize, reader as usize) {
-            n += move_size(maker + 1, reader + 1, layout::move_start(plan, k));
+        if crosses(shape, schedule, maker as usize, reader as usize) {
+            n += move_size(maker + 1, reader + 1, layout::move_start(schedule, k));
             k += 1;
         } else {
             k += 1;
@@ -88,13 +92,13 @@ fn moves_size<'a>(shape: Shape, job: &'a [u64; layout::JOB], plan: &'a [u64; lay
 pub fn schedule_size<'a>(
     shape: Shape,
     job: &'a [u64; layout::JOB],
-    plan: &'a [u64; layout::PLAN],
+    schedule: &'a [u64; layout::SCHEDULE],
     claim: Claim,
 ) -> usize
-    requires { ⌜ JobBounds shape (jobOf (now job)) ⌝ }
-    ensures { λ r. ⌜ r ≡ length (scheduleText (instanceFrom shape (jobOf (now (job .entry)))) (scheduleFrom shape (planOf (now (plan .entry)))) (asClaim claim)) ⌝ }
+    requires { ⌜ JobInBounds shape (now job) ⌝ }
+    ensures { λ r. ⌜ r ≡ length (scheduleText (instanceOf shape (now (job .entry))) (scheduleOf shape (now (schedule .entry))) (asClaim claim)) ⌝ }
 {
-    let runs = runs_size(shape, plan);
-    let moves = moves_size(shape, job, plan);
+    let runs = runs_size(shape, schedule);
+    let moves = moves_size(shape, job, schedule);
     runs + moves + claim_size(claim.span, claim.blue_peak, claim.red_peak)
 }

@@ -6,7 +6,7 @@ ghost use Rattle.rules.specs.Limits.{maxTasks};
 ghost use Rattle.rules.specs.Text.{lf};
 ghost use Rattle.rules.specs.ScheduleText.{runLine, moveLine, claimLine, scheduleBytes, runLines, moveLines, scheduleText};
 ghost use Rattle.text.specs.Wrote.{Wrote};
-ghost use Rattle.model.specs.Layout.{jobOf, planOf, instanceFrom, scheduleFrom, JobBounds};
+ghost use Rattle.model.specs.Layout.{instanceOf, scheduleOf, JobInBounds};
 ghost use Rattle.model.specs.Claims.{asClaim};
 use crate::crossing::crosses;
 use crate::lines::CLAIM_FORM;
@@ -44,16 +44,16 @@ fn write_claim(out: &mut [u8], claim: Claim) -> usize
 }
 
 // Writes the runs, a line for each task.
-fn write_runs(shape: Shape, plan: &[u64; layout::PLAN], out: &mut [u8]) -> usize
+fn write_runs(shape: Shape, schedule: &[u64; layout::SCHEDULE], out: &mut [u8]) -> usize
     requires { ⌜ shape .tasks ≤ maxTasks ⌝ }
-    requires { ⌜ length (runLines (scheduleFrom shape (planOf (now plan))) (shape .tasks)) ≤ length (now out) ⌝ }
-    ensures { λ r. ⌜ Wrote (runLines (scheduleFrom shape (planOf (now (plan .entry)))) (shape .tasks)) r (now (out .entry)) (now (out .exit)) ⌝ }
+    requires { ⌜ length (runLines (scheduleOf shape (now schedule)) (shape .tasks)) ≤ length (now out) ⌝ }
+    ensures { λ r. ⌜ Wrote (runLines (scheduleOf shape (now (schedule .entry))) (shape .tasks)) r (now (out .entry)) (now (out .exit)) ⌝ }
 {
     let mut at: usize = 0;
     let mut i: usize = 0;
     while i < shape.tasks {
-        let processor = layout::processor(plan, i);
-        let start = layout::start(plan, i);
+        let processor = layout::processor(schedule, i);
+        let start = layout::start(schedule, i);
         let n = write_run(&mut out[at..], (i + 1) as u64, processor, start);
         at += n;
         i += 1;
@@ -65,20 +65,20 @@ fn write_runs(shape: Shape, plan: &[u64; layout::PLAN], out: &mut [u8]) -> usize
 fn write_moves<'a>(
     shape: Shape,
     job: &'a [u64; layout::JOB],
-    plan: &'a [u64; layout::PLAN],
+    schedule: &'a [u64; layout::SCHEDULE],
     out: &mut [u8],
 ) -> usize
-    requires { ⌜ JobBounds shape (jobOf (now job)) ⌝ }
-    requires { ⌜ length (moveLines (instanceFrom shape (jobOf (now job))) (scheduleFrom shape (planOf (now plan))) (shape .files)) ≤ length (now out) ⌝ }
-    ensures { λ r. ⌜ Wrote (moveLines (instanceFrom shape (jobOf (now (job .entry)))) (scheduleFrom shape (planOf (now (plan .entry)))) (shape .files)) r (now (out .entry)) (now (out .exit)) ⌝ }
+    requires { ⌜ JobInBounds shape (now job) ⌝ }
+    requires { ⌜ length (moveLines (instanceOf shape (now job)) (scheduleOf shape (now schedule)) (shape .files)) ≤ length (now out) ⌝ }
+    ensures { λ r. ⌜ Wrote (moveLines (instanceOf shape (now (job .entry))) (scheduleOf shape (now (schedule .entry))) (shape .files)) r (now (out .entry)) (now (out .exit)) ⌝ }
 {
     let mut at: usize = 0;
     let mut k: usize = 0;
     while k < shape.files {
         let maker = layout::maker(job, k);
         let reader = layout::reader(job, k);
-        if crosses(shape, plan, maker as usize, reader as usize) {
-            let start = layout::move_start(plan, k);
+        if crosses(shape, schedule, maker as usize, reader as usize) {
+            let start = layout::move_start(schedule, k);
             let n = write_move(&mut out[at..], maker + 1, reader + 1, start);
             at += n;
             k += 1;
@@ -93,16 +93,16 @@ fn write_moves<'a>(
 pub fn write<'a>(
     shape: Shape,
     job: &'a [u64; layout::JOB],
-    plan: &'a [u64; layout::PLAN],
+    schedule: &'a [u64; layout::SCHEDULE],
     claim: Claim,
     out: &mut [u8],
 ) -> usize
-    requires { ⌜ JobBounds shape (jobOf (now job)) ⌝ }
-    requires { ⌜ length (scheduleText (instanceFrom shape (jobOf (now job))) (scheduleFrom shape (planOf (now plan))) (asClaim claim)) ≤ length (now out) ⌝ }
-    ensures { λ r. ⌜ Wrote (scheduleText (instanceFrom shape (jobOf (now (job .entry)))) (scheduleFrom shape (planOf (now (plan .entry)))) (asClaim claim)) r (now (out .entry)) (now (out .exit)) ⌝ }
+    requires { ⌜ JobInBounds shape (now job) ⌝ }
+    requires { ⌜ length (scheduleText (instanceOf shape (now job)) (scheduleOf shape (now schedule)) (asClaim claim)) ≤ length (now out) ⌝ }
+    ensures { λ r. ⌜ Wrote (scheduleText (instanceOf shape (now (job .entry))) (scheduleOf shape (now (schedule .entry))) (asClaim claim)) r (now (out .entry)) (now (out .exit)) ⌝ }
 {
-    let runs_end = write_runs(shape, plan, out);
-    let moves = write_moves(shape, job, plan, &mut out[runs_end..]);
+    let runs_end = write_runs(shape, schedule, out);
+    let moves = write_moves(shape, job, schedule, &mut out[runs_end..]);
     let moves_end = runs_end + moves;
     let last = write_claim(&mut out[moves_end..], claim);
     moves_end + last

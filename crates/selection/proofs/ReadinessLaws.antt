@@ -1,4 +1,4 @@
--- Which tasks are ready, by what the code finds of the plan and the files.
+-- Which tasks are ready, by what the code finds of the schedule and the files.
 use Prim.Native.Nat.{ℕ, _<_}
 use mathlib.Core.Bool.{Bool, true, false, not, _&&_}
 use mathlib.Core.Path.{_≡_, sym, ap, _∙_}
@@ -11,10 +11,10 @@ use Rattle.rules.specs.Scheduling.{missing, ready}
 use Rattle.rules.proofs.Tests.{and-no}
 use Rattle.rules.proofs.CountLaws.{any-some}
 use Rattle.model.specs.declared.layout.Shape.{Shape}
-use Rattle.model.specs.Layout.{Job, Plan, instanceFrom, scheduleFrom, Bounds}
+use Rattle.model.specs.Layout.{Job, Entries, instanceFrom, scheduleFrom, Bounds}
 use Rattle.model.proofs.LayoutLaws.{file-count, file-at, run-at}
 
-module _ {b : Shape} {J : Job} {L : Plan} (f : Bounds b J L) (i : ℕ) where
+module _ {b : Shape} {J : Job} {L : Entries} (f : Bounds b J L) (i : ℕ) where
   abbrev I : Instance
   I = instanceFrom b J
 

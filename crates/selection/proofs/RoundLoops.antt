@@ -14,7 +14,7 @@ use Rattle.rules.specs.Scheduling.{Partial, ready, Choice as Chosen, nothing, c
 use Rattle.rules.proofs.CountLaws.{length-listBelow, getD-listBelow}
 use Rattle.rules.proofs.Tests.{split, clash}
 use Rattle.model.specs.declared.layout.Shape.{Shape}
-use Rattle.model.specs.Layout.{Job, Plan, instanceFrom, scheduleFrom, partialFrom}
+use Rattle.model.specs.Layout.{Job, Entries, instanceFrom, scheduleFrom, partialFrom}
 use Rattle.model.proofs.LayoutLaws.{task-count}
 use Rattle.selection.specs.declared.trial.Choice.{Choice}
 use Rattle.selection.specs.declared.round.Round.{Round}
@@ -89,7 +89,7 @@ module _ (I : Instance) (Q : Partial) (i : ℕ) where
         let p : x ≡ nothing = ap (λ r. r .choice) (one ∙ one-waits e) in
         clash n (rw p))
 
-module _ (b : Shape) (J : Job) (L : Plan) (last : List ℕ) where
+module _ (b : Shape) (J : Job) (L : Entries) (last : List ℕ) where
   abbrev I : Instance
   I = instanceFrom b J
 

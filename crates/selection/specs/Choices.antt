@@ -12,7 +12,7 @@ use Rattle.selection.specs.declared.round.Round.{Round}
 
 abbrev pub asChoice : Choice → Chosen
 asChoice Nothing = nothing
-asChoice (Choose i blue s) = choose i (colourBy blue) s
+asChoice (Choose i colour s) = choose i (colourBy colour) s
 
 abbrev pub asRound : Round → Made
 asRound r = record { choice = asChoice (r .choice); trials = r .trials }
@@ -25,7 +25,7 @@ isChosen (choose i c s) = true
 -- a choice's task exists, and its start is no later than an earliest start can be
 abbrev pub ChoiceBounds : Shape → Choice → Type 0
 ChoiceBounds b Nothing = Unit {0}
-ChoiceBounds b (Choose i blue s) = (i < b .tasks) × (s ≤ lastStart)
+ChoiceBounds b (Choose i colour s) = (i < b .tasks) × (s ≤ lastStart)
 
 -- each of the tasks listed exists
 abbrev pub OrderBounds : Shape → List ℕ → Type 0

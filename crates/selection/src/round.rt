@@ -6,7 +6,7 @@ ghost use lib.ListN.{getD};
 ghost use Rattle.rules.specs.Count.{listBelow};
 ghost use Rattle.rules.specs.Model.{taskCount};
 ghost use Rattle.rules.specs.Scheduling.{earliestBelow, firstThatFits};
-ghost use Rattle.model.specs.Layout.{jobOf, planOf, instanceFrom, Bounds, partialFrom, LastBounds};
+ghost use Rattle.model.specs.Layout.{instanceOf, partialOf, InBounds, LastBounds};
 ghost use Rattle.selection.specs.Choices.{asChoice, asRound, isChosen, ChoiceBounds, OrderBounds};
 use super::readiness::ready;
 use super::trial::Choice;
@@ -23,7 +23,7 @@ pub struct Round {
 }
 
 // Whether there is something to be placed.
-fn chosen(choice: Choice) -> bool
+fn is_chosen(choice: Choice) -> bool
     ensures { λ r. ⌜ r ≡ isChosen (asChoice choice) ⌝ }
 {
     match choice {
@@ -36,18 +36,18 @@ fn chosen(choice: Choice) -> bool
 fn try_task<'a>(
     shape: Shape,
     job: &'a [u64; layout::JOB],
-    plan: &'a [u64; layout::PLAN],
+    schedule: &'a [u64; layout::SCHEDULE],
     last: &'a [u64; layout::LAST],
     task: u64,
 ) -> Round
-    requires { ⌜ Bounds shape (jobOf (now job)) (planOf (now plan)) ⌝ }
+    requires { ⌜ InBounds shape (now job) (now schedule) ⌝ }
     requires { ⌜ LastBounds shape (now last) ⌝ }
     requires { ⌜ task < shape .tasks ⌝ }
-    ensures { λ r. ⌜ asRound r ≡ firstThatFits (instanceFrom shape (jobOf (now (job .entry)))) (partialFrom shape (planOf (now (plan .entry))) (now (last .entry))) (task ∷ []) ⌝ }
+    ensures { λ r. ⌜ asRound r ≡ firstThatFits (instanceOf shape (now (job .entry))) (partialOf shape (now (schedule .entry)) (now (last .entry))) (task ∷ []) ⌝ }
     ensures { λ r. ⌜ ChoiceBounds shape (r .choice) × (r .trials ≤ 2) ⌝ }
 {
-    if ready(shape, job, plan, task) {
-        let choice = both_colours(shape, job, plan, last, task);
+    if ready(shape, job, schedule, task) {
+        let choice = both_colours(shape, job, schedule, last, task);
         return Round { choice, trials: 2 };
     }
     Round {
@@ -60,19 +60,19 @@ fn try_task<'a>(
 pub fn earliest_round<'a>(
     shape: Shape,
     job: &'a [u64; layout::JOB],
-    plan: &'a [u64; layout::PLAN],
+    schedule: &'a [u64; layout::SCHEDULE],
     last: &'a [u64; layout::LAST],
 ) -> Round
-    requires { ⌜ Bounds shape (jobOf (now job)) (planOf (now plan)) ⌝ }
+    requires { ⌜ InBounds shape (now job) (now schedule) ⌝ }
     requires { ⌜ LastBounds shape (now last) ⌝ }
-    ensures { λ r. ⌜ asRound r ≡ earliestBelow (instanceFrom shape (jobOf (now (job .entry)))) (partialFrom shape (planOf (now (plan .entry))) (now (last .entry))) (taskCount (instanceFrom shape (jobOf (now (job .entry))))) ⌝ }
+    ensures { λ r. ⌜ asRound r ≡ earliestBelow (instanceOf shape (now (job .entry))) (partialOf shape (now (schedule .entry)) (now (last .entry))) (taskCount (instanceOf shape (now (job .entry)))) ⌝ }
     ensures { λ r. ⌜ ChoiceBounds shape (r .choice) × (r .trials ≤ 2 * shape .tasks) ⌝ }
 {
     let mut choice = Choice::Nothing;
     let mut trials: u64 = 0;
     let mut i: usize = 0;
     while i < shape.tasks {
-        let round = try_task(shape, job, plan, last, i as u64);
+        let round = try_task(shape, job, schedule, last, i as u64);
         let found = round.choice;
         choice = earlier(shape, job, choice, found);
         trials += round.trials;
@@ -85,23 +85,23 @@ pub fn earliest_round<'a>(
 pub fn first_that_fits<'a>(
     shape: Shape,
     job: &'a [u64; layout::JOB],
-    plan: &'a [u64; layout::PLAN],
+    schedule: &'a [u64; layout::SCHEDULE],
     last: &'a [u64; layout::LAST],
     order: &'a [u64; Board::MAX_TASKS],
 ) -> Round
-    requires { ⌜ Bounds shape (jobOf (now job)) (planOf (now plan)) ⌝ }
+    requires { ⌜ InBounds shape (now job) (now schedule) ⌝ }
     requires { ⌜ LastBounds shape (now last) ⌝ }
     requires { ⌜ OrderBounds shape (now order) ⌝ }
-    ensures { λ r. ⌜ asRound r ≡ firstThatFits (instanceFrom shape (jobOf (now (job .entry)))) (partialFrom shape (planOf (now (plan .entry))) (now (last .entry))) (listBelow (shape .tasks) (λ p. getD (now (order .entry)) p 0)) ⌝ }
+    ensures { λ r. ⌜ asRound r ≡ firstThatFits (instanceOf shape (now (job .entry))) (partialOf shape (now (schedule .entry)) (now (last .entry))) (listBelow (shape .tasks) (λ p. getD (now (order .entry)) p 0)) ⌝ }
     ensures { λ r. ⌜ ChoiceBounds shape (r .choice) × (r .trials ≤ 2 * shape .tasks) ⌝ }
 {
     let mut trials: u64 = 0;
     let mut i: usize = 0;
     while i < shape.tasks {
-        let round = try_task(shape, job, plan, last, order[i]);
+        let round = try_task(shape, job, schedule, last, order[i]);
         let choice = round.choice;
         trials += round.trials;
-        if chosen(choice) {
+        if is_chosen(choice) {
             return Round { choice, trials };
         }
         i += 1;

@@ -3,7 +3,7 @@ ghost use mathlib.Core.Path.{_≡_};
 ghost use Prim.Native.Nat.{_<_, _≤_};
 ghost use Rattle.rules.specs.Scheduling.{finishOn, tried as rules-tried, earlier as rules-earlier, bothColours};
 ghost use Rattle.model.specs.declared.layout.Shape.{Shape};
-ghost use Rattle.model.specs.Layout.{jobOf, planOf, instanceFrom, colourBy, JobBounds, Bounds, partialFrom, LastBounds, lastStart, latestFinish};
+ghost use Rattle.model.specs.Layout.{instanceOf, partialOf, colourBy, JobInBounds, InBounds, LastBounds, lastStart, latestFinish};
 ghost use Rattle.starts.specs.FreeMemory.{asOption, tickOf};
 ghost use Rattle.selection.specs.Choices.{asChoice, ChoiceBounds};
 use model::layout;
@@ -14,41 +14,45 @@ use starts::start::earliest_start;
 // What is to be placed: a task on a colour at a start, or nothing that fits.
 pub enum Choice {
     Nothing,
-    Choose { task: u64, blue: bool, start: u64 },
+    Choose { task: u64, colour: bool, start: u64 },
 }
 
 // A task on a colour, if the colour fits.
-fn tried(task: u64, blue: bool, free: Free) -> Choice
+fn tried(task: u64, colour: bool, free: Free) -> Choice
     requires { ⌜ tickOf free ≤ lastStart ⌝ }
-    ensures { λ r. ⌜ asChoice r ≡ rules-tried task (colourBy blue) (asOption free) ⌝ }
+    ensures { λ r. ⌜ asChoice r ≡ rules-tried task (colourBy colour) (asOption free) ⌝ }
     ensures { λ r. ⌜ ((shape : Shape) → task < shape .tasks → ChoiceBounds shape r) ⌝ }
 {
     let Free::From(start) = free else {
         return Choice::Nothing;
     };
-    Choice::Choose { task, blue, start }
+    Choice::Choose {
+        task,
+        colour,
+        start,
+    }
 }
 
 // The finish of a task that starts so on a colour.
-pub fn finish_on(shape: Shape, job: &[u64; layout::JOB], task: u64, blue: bool, start: u64) -> u64
-    requires { ⌜ JobBounds shape (jobOf (now job)) ⌝ }
+pub fn finish_on(shape: Shape, job: &[u64; layout::JOB], task: u64, colour: bool, start: u64) -> u64
+    requires { ⌜ JobInBounds shape (now job) ⌝ }
     requires { ⌜ (task < shape .tasks) × (start ≤ lastStart) ⌝ }
-    ensures { λ r. ⌜ r ≡ finishOn (instanceFrom shape (jobOf (now (job .entry)))) task (colourBy blue) start ⌝ }
+    ensures { λ r. ⌜ r ≡ finishOn (instanceOf shape (now (job .entry))) task (colourBy colour) start ⌝ }
     ensures { λ r. ⌜ r ≤ latestFinish ⌝ }
 {
-    start + layout::run_time(job, task as usize, blue)
+    start + layout::run_time(job, task as usize, colour)
 }
 
 // The choice with the earlier finish, ties to the first.
 pub fn earlier(shape: Shape, job: &[u64; layout::JOB], a: Choice, b: Choice) -> Choice
-    requires { ⌜ JobBounds shape (jobOf (now job)) ⌝ }
+    requires { ⌜ JobInBounds shape (now job) ⌝ }
     requires { ⌜ ChoiceBounds shape a × ChoiceBounds shape b ⌝ }
-    ensures { λ r. ⌜ asChoice r ≡ rules-earlier (instanceFrom shape (jobOf (now (job .entry)))) (asChoice a) (asChoice b) ⌝ }
+    ensures { λ r. ⌜ asChoice r ≡ rules-earlier (instanceOf shape (now (job .entry))) (asChoice a) (asChoice b) ⌝ }
     ensures { λ r. ⌜ ChoiceBounds shape r ⌝ }
 {
     let Choice::Choose {
         task: i,
-        blue: c,
+        colour: c,
         start: s,
     } = a
     else {
@@ -56,7 +60,7 @@ pub fn earlier(shape: Shape, job: &[u64; layout::JOB], a: Choice, b: Choice) -> 
     };
     let Choice::Choose {
         task: j,
-        blue: d,
+        colour: d,
         start: t,
     } = b
     else {
@@ -73,18 +77,18 @@ pub fn earlier(shape: Shape, job: &[u64; layout::JOB], a: Choice, b: Choice) -> 
 pub fn both_colours<'a>(
     shape: Shape,
     job: &'a [u64; layout::JOB],
-    plan: &'a [u64; layout::PLAN],
+    schedule: &'a [u64; layout::SCHEDULE],
     last: &'a [u64; layout::LAST],
     task: u64,
 ) -> Choice
-    requires { ⌜ Bounds shape (jobOf (now job)) (planOf (now plan)) ⌝ }
+    requires { ⌜ InBounds shape (now job) (now schedule) ⌝ }
     requires { ⌜ LastBounds shape (now last) ⌝ }
     requires { ⌜ task < shape .tasks ⌝ }
-    ensures { λ r. ⌜ asChoice r ≡ bothColours (instanceFrom shape (jobOf (now (job .entry)))) (partialFrom shape (planOf (now (plan .entry))) (now (last .entry))) task ⌝ }
+    ensures { λ r. ⌜ asChoice r ≡ bothColours (instanceOf shape (now (job .entry))) (partialOf shape (now (schedule .entry)) (now (last .entry))) task ⌝ }
     ensures { λ r. ⌜ ChoiceBounds shape r ⌝ }
 {
-    let on_blue = earliest_start(shape, job, plan, last, task, true);
-    let on_red = earliest_start(shape, job, plan, last, task, false);
+    let on_blue = earliest_start(shape, job, schedule, last, task, true);
+    let on_red = earliest_start(shape, job, schedule, last, task, false);
     let first = tried(task, true, on_blue);
     let second = tried(task, false, on_red);
     earlier(shape, job, first, second)

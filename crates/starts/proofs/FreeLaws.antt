@@ -14,7 +14,7 @@ use Rattle.rules.proofs.Tests.{cond-zero}
 use Rattle.rules.proofs.ResidencyLaws.{free-nowhere}
 use Rattle.model.specs.declared.layout.Shape.{Shape}
 use Rattle.model.specs.declared.residency.Hold.{Hold}
-use Rattle.model.specs.Layout.{Job, Plan, instanceFrom, scheduleFrom, colourBy}
+use Rattle.model.specs.Layout.{Job, Entries, instanceFrom, scheduleFrom, colourBy}
 use Rattle.model.specs.Holds.{asHold}
 use Rattle.model.proofs.LayoutLaws.{file-count, limit-of}
 use Rattle.starts.specs.FreeMemory.{endOf, lateEnd}
@@ -26,7 +26,7 @@ end-settles never = omega arith
 end-settles (during a b) = omega arith
 end-settles (since a) = omega arith
 
-module _ (b : Shape) (J : Job) (L : Plan) (need : ℕ) where
+module _ (b : Shape) (J : Job) (L : Entries) (need : ℕ) where
   abbrev I : Instance
   I = instanceFrom b J
 

@@ -6,10 +6,10 @@ use native.Mathlib.Omega.{arith}
 use Rattle.rules.specs.Model.{Instance, Schedule, finishAt, madeAt, moveTimeAt}
 use Rattle.rules.specs.Scheduling.{crossing, arrival}
 use Rattle.model.specs.declared.layout.Shape.{Shape}
-use Rattle.model.specs.Layout.{Job, Plan, instanceFrom, scheduleFrom, colourBy, Bounds}
+use Rattle.model.specs.Layout.{Job, Entries, instanceFrom, scheduleFrom, colourBy, Bounds}
 use Rattle.model.proofs.LayoutLaws.{file-at, move-time-at}
 
-module _ {b : Shape} {J : Job} {L : Plan} (f : Bounds b J L) {k : ℕ} (h : k < b .files) (i : ℕ) (c : Bool) where
+module _ {b : Shape} {J : Job} {L : Entries} (f : Bounds b J L) {k : ℕ} (h : k < b .files) (i : ℕ) (c : Bool) where
   abbrev I : Instance
   I = instanceFrom b J
 

@@ -7,7 +7,7 @@ use Rattle.rules.specs.Count.{sumWhere, maxWhere}
 use Rattle.rules.specs.Model.{Colour, Instance, Schedule, sizeAt, moveTimeAt}
 use Rattle.rules.specs.Scheduling.{reads, makes, crossing, arrival, crossingSize, crossingTime, outputSize, inputStart}
 use Rattle.model.specs.declared.layout.Shape.{Shape}
-use Rattle.model.specs.Layout.{Job, Plan, instanceFrom, scheduleFrom}
+use Rattle.model.specs.Layout.{Job, Entries, instanceFrom, scheduleFrom}
 use Rattle.model.proofs.LayoutLaws.{file-count, size-at, move-time-at, makes-at, reads-at}
 use Rattle.model.proofs.StepLaws.{sum-turn, max-turn}
 
@@ -23,7 +23,7 @@ module _ (b : Shape) (J : Job) (i : ℕ) where
   unfolding outputSize
   output-total e = rw (file-count b J, e)
 
-  module _ (L : Plan) (c : Colour) where
+  module _ (L : Entries) (c : Colour) where
     abbrev P : Schedule
     P = scheduleFrom b L
 

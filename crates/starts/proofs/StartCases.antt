@@ -12,7 +12,7 @@ use Rattle.rules.specs.Model.{Instance, Schedule}
 use Rattle.rules.specs.Scheduling.{Partial, processorStart, inputStart, crossingSize, crossingTime, outputSize, freeFrom, latest, delayed, earliestStart}
 use Rattle.rules.proofs.CountLaws.{min-cong}
 use Rattle.model.specs.declared.layout.Shape.{Shape}
-use Rattle.model.specs.Layout.{Job, Plan, instanceFrom, scheduleFrom, colourBy, partialFrom, countIn, Processors}
+use Rattle.model.specs.Layout.{Job, Entries, instanceFrom, scheduleFrom, colourBy, partialFrom, countIn, Processors}
 use Rattle.model.proofs.LayoutLaws.{last-finish-at}
 use Rattle.starts.specs.declared.memory.Free.{Free}
 use Rattle.starts.specs.declared.memory.Free.the-variants.{Nowhere, From}
@@ -50,7 +50,7 @@ module _ (last : List ℕ) (first : ℕ) where
       let g : suc (pred i) ≡ i = omega arith in
       rw e (ap (λ j. min (minUpTo (pred i) at) (at j)) g)
 
-module _ (b : Shape) (J : Job) (L : Plan) (last : List ℕ) where
+module _ (b : Shape) (J : Job) (L : Entries) (last : List ℕ) where
   abbrev I : Instance
   I = instanceFrom b J
 

@@ -3,11 +3,11 @@ ghost use mathlib.Core.Path.{_≡_};
 ghost use Prim.Native.Nat.{_<_, _≤_};
 ghost use Rattle.rules.specs.Count.{maxBelow};
 ghost use Rattle.rules.specs.Scheduling.{fits, freeFrom};
-ghost use Rattle.model.specs.Layout.{jobOf, planOf, instanceFrom, scheduleFrom, colourBy, Bounds, lastTick};
+ghost use Rattle.model.specs.Layout.{instanceOf, scheduleOf, colourBy, InBounds, lastTick};
 ghost use Rattle.model.specs.Holds.{asHold};
 ghost use Rattle.starts.specs.FreeMemory.{asOption, tickOf, endOf, lateEnd, mostNeeded};
-use model::choice::either;
 use model::choice::greater;
+use model::choice::select;
 use model::layout;
 use model::layout::Shape;
 use model::residency::Hold;
@@ -25,17 +25,17 @@ pub enum Free {
 pub fn fits_at<'a>(
     shape: Shape,
     job: &'a [u64; layout::JOB],
-    plan: &'a [u64; layout::PLAN],
+    schedule: &'a [u64; layout::SCHEDULE],
     colour: bool,
     need: u64,
     t: u64,
 ) -> bool
-    requires { ⌜ Bounds shape (jobOf (now job)) (planOf (now plan)) ⌝ }
+    requires { ⌜ InBounds shape (now job) (now schedule) ⌝ }
     requires { ⌜ need ≤ mostNeeded ⌝ }
-    ensures { λ r. ⌜ r ≡ fits (instanceFrom shape (jobOf (now (job .entry)))) (scheduleFrom shape (planOf (now (plan .entry)))) (colourBy colour) need t ⌝ }
+    ensures { λ r. ⌜ r ≡ fits (instanceOf shape (now (job .entry))) (scheduleOf shape (now (schedule .entry))) (colourBy colour) need t ⌝ }
 {
-    let held = held_at(shape, job, plan, colour, t);
-    let limit = either(colour, shape.board.blue.limit, shape.board.red.limit);
+    let held = held_at(shape, job, schedule, colour, t);
+    let limit = select(colour, shape.board.blue.limit, shape.board.red.limit);
     held + need <= limit
 }
 
@@ -54,22 +54,22 @@ fn end_of(h: Hold) -> u64
 fn late_end<'a>(
     shape: Shape,
     job: &'a [u64; layout::JOB],
-    plan: &'a [u64; layout::PLAN],
+    schedule: &'a [u64; layout::SCHEDULE],
     k: usize,
     colour: bool,
     need: u64,
 ) -> u64
-    requires { ⌜ Bounds shape (jobOf (now job)) (planOf (now plan)) ⌝ }
+    requires { ⌜ InBounds shape (now job) (now schedule) ⌝ }
     requires { ⌜ k < shape .files ⌝ }
     requires { ⌜ need ≤ mostNeeded ⌝ }
-    ensures { λ r. ⌜ r ≡ lateEnd (instanceFrom shape (jobOf (now (job .entry)))) (scheduleFrom shape (planOf (now (plan .entry)))) (colourBy colour) need k ⌝ }
+    ensures { λ r. ⌜ r ≡ lateEnd (instanceOf shape (now (job .entry))) (scheduleOf shape (now (schedule .entry))) (colourBy colour) need k ⌝ }
     ensures { λ r. ⌜ r ≤ lastTick ⌝ }
 {
-    let e = end_of(hold_of(shape, job, plan, k, colour));
+    let e = end_of(hold_of(shape, job, schedule, k, colour));
     if e == 0 {
         return 0;
     }
-    if fits_at(shape, job, plan, colour, need, e - 1) {
+    if fits_at(shape, job, schedule, colour, need, e - 1) {
         return 0;
     }
     e
@@ -79,19 +79,19 @@ fn late_end<'a>(
 fn last_late<'a>(
     shape: Shape,
     job: &'a [u64; layout::JOB],
-    plan: &'a [u64; layout::PLAN],
+    schedule: &'a [u64; layout::SCHEDULE],
     colour: bool,
     need: u64,
 ) -> u64
-    requires { ⌜ Bounds shape (jobOf (now job)) (planOf (now plan)) ⌝ }
+    requires { ⌜ InBounds shape (now job) (now schedule) ⌝ }
     requires { ⌜ need ≤ mostNeeded ⌝ }
-    ensures { λ r. ⌜ r ≡ maxBelow (shape .files) (lateEnd (instanceFrom shape (jobOf (now (job .entry)))) (scheduleFrom shape (planOf (now (plan .entry)))) (colourBy colour) need) ⌝ }
+    ensures { λ r. ⌜ r ≡ maxBelow (shape .files) (lateEnd (instanceOf shape (now (job .entry))) (scheduleOf shape (now (schedule .entry))) (colourBy colour) need) ⌝ }
     ensures { λ r. ⌜ r ≤ lastTick ⌝ }
 {
     let mut most: u64 = 0;
     let mut i: usize = 0;
     while i < shape.files {
-        most = greater(most, late_end(shape, job, plan, i, colour, need));
+        most = greater(most, late_end(shape, job, schedule, i, colour, need));
         i += 1;
     }
     most
@@ -102,18 +102,18 @@ fn last_late<'a>(
 pub fn free_from<'a>(
     shape: Shape,
     job: &'a [u64; layout::JOB],
-    plan: &'a [u64; layout::PLAN],
+    schedule: &'a [u64; layout::SCHEDULE],
     colour: bool,
     need: u64,
 ) -> Free
-    requires { ⌜ Bounds shape (jobOf (now job)) (planOf (now plan)) ⌝ }
+    requires { ⌜ InBounds shape (now job) (now schedule) ⌝ }
     requires { ⌜ need ≤ mostNeeded ⌝ }
-    ensures { λ r. ⌜ asOption r ≡ freeFrom (instanceFrom shape (jobOf (now (job .entry)))) (scheduleFrom shape (planOf (now (plan .entry)))) (colourBy colour) need ⌝ }
+    ensures { λ r. ⌜ asOption r ≡ freeFrom (instanceOf shape (now (job .entry))) (scheduleOf shape (now (schedule .entry))) (colourBy colour) need ⌝ }
     ensures { λ r. ⌜ tickOf r ≤ lastTick ⌝ }
 {
-    let settled = horizon_of(shape, job, plan, colour);
-    if fits_at(shape, job, plan, colour, need, settled) {
-        Free::From(last_late(shape, job, plan, colour, need))
+    let settled = horizon_of(shape, job, schedule, colour);
+    if fits_at(shape, job, schedule, colour, need, settled) {
+        Free::From(last_late(shape, job, schedule, colour, need))
     } else {
         Free::Nowhere
     }

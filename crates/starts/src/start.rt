@@ -4,7 +4,7 @@ ghost use mathlib.Core.Option.{some};
 ghost use Prim.Native.Nat.{_+_, _≤_};
 ghost use Rattle.rules.specs.Limits.{moveTimes};
 ghost use Rattle.rules.specs.Scheduling.{processorStart, latest as rules-latest, delayed, earliestStart};
-ghost use Rattle.model.specs.Layout.{Job, Plan, jobOf, planOf, instanceFrom, partialFrom, colourBy, Processors, Bounds, LastBounds, lastTick, lastStart};
+ghost use Rattle.model.specs.Layout.{Job, Entries, instanceFrom, partialFrom, instanceOf, partialOf, colourBy, Processors, InBounds, LastBounds, lastTick, lastStart};
 ghost use Rattle.starts.specs.FreeMemory.{asOption, tickOf};
 use super::inputs::crossing_size;
 use super::inputs::crossing_time;
@@ -12,9 +12,9 @@ use super::inputs::input_start;
 use super::inputs::output_size;
 use super::memory::Free;
 use super::memory::free_from;
-use model::choice::either;
 use model::choice::greater;
 use model::choice::lesser;
+use model::choice::select;
 use model::layout;
 use model::layout::Shape;
 
@@ -22,12 +22,12 @@ use model::layout::Shape;
 pub fn processor_start(shape: Shape, last: &[u64; layout::LAST], colour: bool) -> u64
     requires { ⌜ Processors shape ⌝ }
     requires { ⌜ LastBounds shape (now last) ⌝ }
-    ensures { λ r. ⌜ ((J : Job) (L : Plan) → r ≡ processorStart (instanceFrom shape J) (partialFrom shape L (now (last .entry))) (colourBy colour)) ⌝ }
+    ensures { λ r. ⌜ ((J : Job) (L : Entries) → r ≡ processorStart (instanceFrom shape J) (partialFrom shape L (now (last .entry))) (colourBy colour)) ⌝ }
     ensures { λ r. ⌜ r ≤ lastTick ⌝ }
 {
     let blue = shape.board.blue.processors;
-    let first = either(colour, 0, blue);
-    let count = either(colour, blue, shape.board.red.processors);
+    let first = select(colour, 0, blue);
+    let count = select(colour, blue, shape.board.red.processors);
     let at = first as usize;
     let mut least = last[at];
     let mut i: u64 = 1;
@@ -58,22 +58,22 @@ fn latest(ready: u64, running: Free, moving: Free, delay: u64) -> Free
 pub fn earliest_start<'a>(
     shape: Shape,
     job: &'a [u64; layout::JOB],
-    plan: &'a [u64; layout::PLAN],
+    schedule: &'a [u64; layout::SCHEDULE],
     last: &'a [u64; layout::LAST],
     task: u64,
     colour: bool,
 ) -> Free
-    requires { ⌜ Bounds shape (jobOf (now job)) (planOf (now plan)) ⌝ }
+    requires { ⌜ InBounds shape (now job) (now schedule) ⌝ }
     requires { ⌜ LastBounds shape (now last) ⌝ }
-    ensures { λ r. ⌜ asOption r ≡ earliestStart (instanceFrom shape (jobOf (now (job .entry)))) (partialFrom shape (planOf (now (plan .entry))) (now (last .entry))) task (colourBy colour) ⌝ }
+    ensures { λ r. ⌜ asOption r ≡ earliestStart (instanceOf shape (now (job .entry))) (partialOf shape (now (schedule .entry)) (now (last .entry))) task (colourBy colour) ⌝ }
     ensures { λ r. ⌜ tickOf r ≤ lastStart ⌝ }
 {
-    let incoming = crossing_size(shape, job, plan, task, colour);
+    let incoming = crossing_size(shape, job, schedule, task, colour);
     let made = output_size(shape, job, task);
     let free = processor_start(shape, last, colour);
-    let ready = greater(free, input_start(shape, job, plan, task, colour));
-    let running = free_from(shape, job, plan, colour, incoming + made);
-    let moving = free_from(shape, job, plan, colour, incoming);
-    let delay = crossing_time(shape, job, plan, task, colour);
+    let ready = greater(free, input_start(shape, job, schedule, task, colour));
+    let running = free_from(shape, job, schedule, colour, incoming + made);
+    let moving = free_from(shape, job, schedule, colour, incoming);
+    let delay = crossing_time(shape, job, schedule, task, colour);
     latest(ready, running, moving, delay)
 }

@@ -16,7 +16,7 @@ use Rattle.rules.specs.Validity.{overlaps, early, readsEarly, makespan, peak, o
 use Rattle.rules.proofs.CompleteLaws.{none-held}
 use Rattle.model.specs.declared.layout.Shape.{Shape}
 use Rattle.model.specs.declared.residency.Hold.{Hold}
-use Rattle.model.specs.Layout.{Job, Plan, Bounds, instanceFrom, scheduleFrom, colourBy}
+use Rattle.model.specs.Layout.{Job, Entries, Bounds, instanceFrom, scheduleFrom, colourBy}
 use Rattle.model.specs.Holds.{asHold}
 use Rattle.model.proofs.LayoutLaws.{file-count, task-count, maker-at, reader-at, move-time-at, run-at, move-at, limit-of, isBlue, moved-at}
 use Rattle.model.proofs.StepLaws.{max-next}
@@ -32,7 +32,7 @@ use Rattle.validator.proofs.LeastLaws.{least-turn}
 use Rattle.validator.proofs.OverlapLaws.{lowest-overlapping}
 use Rattle.validator.proofs.RiseLaws.{over-by, over-is, peak-starts, first-over}
 
-module _ {b : Shape} {J : Job} {L : Plan} (f : Bounds b J L) where
+module _ {b : Shape} {J : Job} {L : Entries} (f : Bounds b J L) where
   abbrev I : Instance
   I = instanceFrom b J
 

@@ -4,7 +4,7 @@ ghost use Prim.Native.Nat.{_<_};
 ghost use Rattle.rules.specs.Count.{firstBelow};
 ghost use Rattle.rules.specs.Model.{taskCount};
 ghost use Rattle.rules.specs.Validity.{overlaps};
-ghost use Rattle.model.specs.Layout.{jobOf, planOf, instanceFrom, scheduleFrom, Bounds};
+ghost use Rattle.model.specs.Layout.{instanceOf, scheduleOf, InBounds};
 ghost use Rattle.validator.specs.Records.{recordAt, Records};
 use model::layout;
 use model::layout::Shape;
@@ -16,17 +16,17 @@ use runs::Run;
 fn run_of<'a>(
     shape: Shape,
     job: &'a [u64; layout::JOB],
-    plan: &'a [u64; layout::PLAN],
+    schedule: &'a [u64; layout::SCHEDULE],
     i: usize,
 ) -> Run
-    requires { ⌜ Bounds shape (jobOf (now job)) (planOf (now plan)) ⌝ }
+    requires { ⌜ InBounds shape (now job) (now schedule) ⌝ }
     requires { ⌜ i < shape .tasks ⌝ }
-    ensures { λ r. ⌜ r ≡ recordAt (instanceFrom shape (jobOf (now (job .entry)))) (scheduleFrom shape (planOf (now (plan .entry)))) i ⌝ }
+    ensures { λ r. ⌜ r ≡ recordAt (instanceOf shape (now (job .entry))) (scheduleOf shape (now (schedule .entry))) i ⌝ }
 {
     Run {
-        processor: layout::processor(plan, i),
-        start: layout::start(plan, i),
-        finish: finish(shape, job, plan, i),
+        processor: layout::processor(schedule, i),
+        start: layout::start(schedule, i),
+        finish: finish(shape, job, schedule, i),
     }
 }
 
@@ -34,10 +34,10 @@ fn run_of<'a>(
 fn all_runs<'a>(
     shape: Shape,
     job: &'a [u64; layout::JOB],
-    plan: &'a [u64; layout::PLAN],
+    schedule: &'a [u64; layout::SCHEDULE],
 ) -> [Run; Board::MAX_TASKS]
-    requires { ⌜ Bounds shape (jobOf (now job)) (planOf (now plan)) ⌝ }
-    ensures { λ r. ⌜ Records (instanceFrom shape (jobOf (now (job .entry)))) (scheduleFrom shape (planOf (now (plan .entry)))) (shape .tasks) r ⌝ }
+    requires { ⌜ InBounds shape (now job) (now schedule) ⌝ }
+    ensures { λ r. ⌜ Records (instanceOf shape (now (job .entry))) (scheduleOf shape (now (schedule .entry))) (shape .tasks) r ⌝ }
 {
     let mut all = [Run {
         processor: 0,
@@ -46,7 +46,7 @@ fn all_runs<'a>(
     }; Board::MAX_TASKS];
     let mut i: usize = 0;
     while i < shape.tasks {
-        all[i] = run_of(shape, job, plan, i);
+        all[i] = run_of(shape, job, schedule, i);
         i += 1;
     }
     all
@@ -56,11 +56,11 @@ fn all_runs<'a>(
 pub fn first_overlapping<'a>(
     shape: Shape,
     job: &'a [u64; layout::JOB],
-    plan: &'a [u64; layout::PLAN],
+    schedule: &'a [u64; layout::SCHEDULE],
 ) -> usize
-    requires { ⌜ Bounds shape (jobOf (now job)) (planOf (now plan)) ⌝ }
-    ensures { λ r. ⌜ r ≡ firstBelow (taskCount (instanceFrom shape (jobOf (now (job .entry))))) (overlaps (instanceFrom shape (jobOf (now (job .entry)))) (scheduleFrom shape (planOf (now (plan .entry))))) ⌝ }
+    requires { ⌜ InBounds shape (now job) (now schedule) ⌝ }
+    ensures { λ r. ⌜ r ≡ firstBelow (taskCount (instanceOf shape (now (job .entry)))) (overlaps (instanceOf shape (now (job .entry))) (scheduleOf shape (now (schedule .entry)))) ⌝ }
 {
-    let all = all_runs(shape, job, plan);
+    let all = all_runs(shape, job, schedule);
     runs::lowest_overlap(all, shape.tasks)
 }

@@ -3,7 +3,7 @@ ghost use mathlib.Core.Path.{_≡_};
 ghost use Prim.Native.Nat.{_≤_};
 ghost use Rattle.rules.specs.Validity.{trueClaim, sameClaim, refusedBy, acceptedWith, judge as rules-judge};
 ghost use Rattle.model.specs.Claims.{asClaim};
-ghost use Rattle.model.specs.Layout.{jobOf, planOf, instanceFrom, scheduleFrom, Bounds, lastTick, mostHeld};
+ghost use Rattle.model.specs.Layout.{entriesOf, instanceOf, scheduleOf, InBounds, lastTick, mostHeld};
 ghost use Rattle.validator.specs.Answer.{asVerdict, judgedClaim, judgedMemory, judgedTiming};
 ghost use Rattle.validator.specs.Complete.{Placed};
 use super::exclusion::first_overlapping;
@@ -63,17 +63,17 @@ impl Verdict {
 pub fn true_claim<'a>(
     shape: Shape,
     job: &'a [u64; layout::JOB],
-    plan: &'a [u64; layout::PLAN],
+    schedule: &'a [u64; layout::SCHEDULE],
 ) -> Claim
-    requires { ⌜ Bounds shape (jobOf (now job)) (planOf (now plan)) ⌝ }
-    requires { ⌜ Placed shape (planOf (now plan)) ⌝ }
-    ensures { λ r. ⌜ asClaim r ≡ trueClaim (instanceFrom shape (jobOf (now (job .entry)))) (scheduleFrom shape (planOf (now (plan .entry)))) ⌝ }
+    requires { ⌜ InBounds shape (now job) (now schedule) ⌝ }
+    requires { ⌜ Placed shape (entriesOf (now schedule)) ⌝ }
+    ensures { λ r. ⌜ asClaim r ≡ trueClaim (instanceOf shape (now (job .entry))) (scheduleOf shape (now (schedule .entry))) ⌝ }
     ensures { λ r. ⌜ (r .span ≤ lastTick) × (r .«blue_peak» ≤ mostHeld) × (r .«red_peak» ≤ mostHeld) ⌝ }
 {
     Claim {
-        span: makespan(shape, job, plan),
-        blue_peak: peak(shape, job, plan, true),
-        red_peak: peak(shape, job, plan, false),
+        span: makespan(shape, job, schedule),
+        blue_peak: peak(shape, job, schedule, true),
+        red_peak: peak(shape, job, schedule, false),
     }
 }
 
@@ -93,14 +93,14 @@ fn same_claim(a: Claim, b: Claim) -> bool
 fn judge_claim<'a>(
     shape: Shape,
     job: &'a [u64; layout::JOB],
-    plan: &'a [u64; layout::PLAN],
+    schedule: &'a [u64; layout::SCHEDULE],
     claim: Claim,
 ) -> Verdict
-    requires { ⌜ Bounds shape (jobOf (now job)) (planOf (now plan)) ⌝ }
-    requires { ⌜ Placed shape (planOf (now plan)) ⌝ }
-    ensures { λ r. ⌜ asVerdict r ≡ judgedClaim (instanceFrom shape (jobOf (now (job .entry)))) (scheduleFrom shape (planOf (now (plan .entry)))) (asClaim claim) ⌝ }
+    requires { ⌜ InBounds shape (now job) (now schedule) ⌝ }
+    requires { ⌜ Placed shape (entriesOf (now schedule)) ⌝ }
+    ensures { λ r. ⌜ asVerdict r ≡ judgedClaim (instanceOf shape (now (job .entry))) (scheduleOf shape (now (schedule .entry))) (asClaim claim) ⌝ }
 {
-    if same_claim(claim, true_claim(shape, job, plan)) {
+    if same_claim(claim, true_claim(shape, job, schedule)) {
         return Verdict::accepted(claim);
     }
     Verdict::refused(Verdict::UNTRUE, 0)
@@ -110,53 +110,53 @@ fn judge_claim<'a>(
 fn judge_memory<'a>(
     shape: Shape,
     job: &'a [u64; layout::JOB],
-    plan: &'a [u64; layout::PLAN],
+    schedule: &'a [u64; layout::SCHEDULE],
     claim: Claim,
 ) -> Verdict
-    requires { ⌜ Bounds shape (jobOf (now job)) (planOf (now plan)) ⌝ }
-    requires { ⌜ Placed shape (planOf (now plan)) ⌝ }
-    ensures { λ r. ⌜ asVerdict r ≡ judgedMemory (instanceFrom shape (jobOf (now (job .entry)))) (scheduleFrom shape (planOf (now (plan .entry)))) (asClaim claim) ⌝ }
+    requires { ⌜ InBounds shape (now job) (now schedule) ⌝ }
+    requires { ⌜ Placed shape (entriesOf (now schedule)) ⌝ }
+    ensures { λ r. ⌜ asVerdict r ≡ judgedMemory (instanceOf shape (now (job .entry))) (scheduleOf shape (now (schedule .entry))) (asClaim claim) ⌝ }
 {
-    let last = settled(shape, job, plan);
-    let t = first_over(shape, job, plan, last);
+    let last = settled(shape, job, schedule);
+    let t = first_over(shape, job, schedule, last);
     if t < last {
         return Verdict::refused(Verdict::OVER_LIMIT, t);
     }
-    judge_claim(shape, job, plan, claim)
+    judge_claim(shape, job, schedule, claim)
 }
 
 // The verdict from 16 on.
 fn judge_timing<'a>(
     shape: Shape,
     job: &'a [u64; layout::JOB],
-    plan: &'a [u64; layout::PLAN],
+    schedule: &'a [u64; layout::SCHEDULE],
     claim: Claim,
 ) -> Verdict
-    requires { ⌜ Bounds shape (jobOf (now job)) (planOf (now plan)) ⌝ }
-    requires { ⌜ Placed shape (planOf (now plan)) ⌝ }
-    ensures { λ r. ⌜ asVerdict r ≡ judgedTiming (instanceFrom shape (jobOf (now (job .entry)))) (scheduleFrom shape (planOf (now (plan .entry)))) (asClaim claim) ⌝ }
+    requires { ⌜ InBounds shape (now job) (now schedule) ⌝ }
+    requires { ⌜ Placed shape (entriesOf (now schedule)) ⌝ }
+    ensures { λ r. ⌜ asVerdict r ≡ judgedTiming (instanceOf shape (now (job .entry))) (scheduleOf shape (now (schedule .entry))) (asClaim claim) ⌝ }
 {
-    let task = first_early(shape, job, plan);
+    let task = first_early(shape, job, schedule);
     if task < shape.tasks as u64 {
         return Verdict::refused(Verdict::EARLY, task + 1);
     }
-    judge_memory(shape, job, plan, claim)
+    judge_memory(shape, job, schedule, claim)
 }
 
 // The verdict on a complete schedule and its claim.
 pub fn judge<'a>(
     shape: Shape,
     job: &'a [u64; layout::JOB],
-    plan: &'a [u64; layout::PLAN],
+    schedule: &'a [u64; layout::SCHEDULE],
     claim: Claim,
 ) -> Verdict
-    requires { ⌜ Bounds shape (jobOf (now job)) (planOf (now plan)) ⌝ }
-    requires { ⌜ Placed shape (planOf (now plan)) ⌝ }
-    ensures { λ r. ⌜ asVerdict r ≡ rules-judge (instanceFrom shape (jobOf (now (job .entry)))) (scheduleFrom shape (planOf (now (plan .entry)))) (asClaim claim) ⌝ }
+    requires { ⌜ InBounds shape (now job) (now schedule) ⌝ }
+    requires { ⌜ Placed shape (entriesOf (now schedule)) ⌝ }
+    ensures { λ r. ⌜ asVerdict r ≡ rules-judge (instanceOf shape (now (job .entry))) (scheduleOf shape (now (schedule .entry))) (asClaim claim) ⌝ }
 {
-    let task = first_overlapping(shape, job, plan);
+    let task = first_overlapping(shape, job, schedule);
     if task < shape.tasks {
         return Verdict::refused(Verdict::OVERLAP, task as u64 + 1);
     }
-    judge_timing(shape, job, plan, claim)
+    judge_timing(shape, job, schedule, claim)
 }

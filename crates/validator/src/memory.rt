@@ -6,13 +6,13 @@ ghost use Rattle.rules.specs.Count.{firstBelow};
 ghost use Rattle.rules.specs.Model.{blue as rules-blue, red as rules-red};
 ghost use Rattle.rules.specs.Residency.{horizon};
 ghost use Rattle.rules.specs.Validity.{over, peak as rules-peak};
-ghost use Rattle.model.specs.Layout.{jobOf, planOf, instanceFrom, scheduleFrom, colourBy, Bounds, mostHeld};
+ghost use Rattle.model.specs.Layout.{entriesOf, instanceOf, scheduleOf, colourBy, InBounds, mostHeld};
 ghost use Rattle.model.specs.Holds.{asHold};
 ghost use Rattle.validator.specs.Starts.{startOf, startIn, firstOverIn};
 ghost use Rattle.validator.specs.Complete.{Placed};
-use model::choice::either;
 use model::choice::greater;
 use model::choice::lesser;
+use model::choice::select;
 use model::layout;
 use model::layout::Shape;
 use model::residency::Hold;
@@ -35,34 +35,34 @@ fn start_of(h: Hold) -> u64
 fn hold_start<'a>(
     shape: Shape,
     job: &'a [u64; layout::JOB],
-    plan: &'a [u64; layout::PLAN],
+    schedule: &'a [u64; layout::SCHEDULE],
     k: usize,
-    blue: bool,
+    colour: bool,
 ) -> u64
-    requires { ⌜ Bounds shape (jobOf (now job)) (planOf (now plan)) ⌝ }
+    requires { ⌜ InBounds shape (now job) (now schedule) ⌝ }
     requires { ⌜ k < shape .files ⌝ }
-    ensures { λ r. ⌜ r ≡ startIn (instanceFrom shape (jobOf (now (job .entry)))) (scheduleFrom shape (planOf (now (plan .entry)))) (colourBy blue) k ⌝ }
+    ensures { λ r. ⌜ r ≡ startIn (instanceOf shape (now (job .entry))) (scheduleOf shape (now (schedule .entry))) (colourBy colour) k ⌝ }
 {
-    start_of(hold_of(shape, job, plan, k, blue))
+    start_of(hold_of(shape, job, schedule, k, colour))
 }
 
 // The greatest total held in the memory of the colour.
 pub fn peak<'a>(
     shape: Shape,
     job: &'a [u64; layout::JOB],
-    plan: &'a [u64; layout::PLAN],
-    blue: bool,
+    schedule: &'a [u64; layout::SCHEDULE],
+    colour: bool,
 ) -> u64
-    requires { ⌜ Bounds shape (jobOf (now job)) (planOf (now plan)) ⌝ }
-    requires { ⌜ Placed shape (planOf (now plan)) ⌝ }
-    ensures { λ r. ⌜ r ≡ rules-peak (instanceFrom shape (jobOf (now (job .entry)))) (scheduleFrom shape (planOf (now (plan .entry)))) (colourBy blue) ⌝ }
+    requires { ⌜ InBounds shape (now job) (now schedule) ⌝ }
+    requires { ⌜ Placed shape (entriesOf (now schedule)) ⌝ }
+    ensures { λ r. ⌜ r ≡ rules-peak (instanceOf shape (now (job .entry))) (scheduleOf shape (now (schedule .entry))) (colourBy colour) ⌝ }
     ensures { λ r. ⌜ r ≤ mostHeld ⌝ }
 {
     let mut most: u64 = 0;
     let mut i: usize = 0;
     while i < shape.files {
-        let t = hold_start(shape, job, plan, i, blue);
-        most = greater(most, held_at(shape, job, plan, blue, t));
+        let t = hold_start(shape, job, schedule, i, colour);
+        most = greater(most, held_at(shape, job, schedule, colour, t));
         i += 1;
     }
     most
@@ -72,34 +72,34 @@ pub fn peak<'a>(
 fn over_at<'a>(
     shape: Shape,
     job: &'a [u64; layout::JOB],
-    plan: &'a [u64; layout::PLAN],
+    schedule: &'a [u64; layout::SCHEDULE],
     t: u64,
 ) -> bool
-    requires { ⌜ Bounds shape (jobOf (now job)) (planOf (now plan)) ⌝ }
-    ensures { λ r. ⌜ r ≡ over (instanceFrom shape (jobOf (now (job .entry)))) (scheduleFrom shape (planOf (now (plan .entry)))) t ⌝ }
+    requires { ⌜ InBounds shape (now job) (now schedule) ⌝ }
+    ensures { λ r. ⌜ r ≡ over (instanceOf shape (now (job .entry))) (scheduleOf shape (now (schedule .entry))) t ⌝ }
 {
-    if shape.board.blue.limit < held_at(shape, job, plan, true, t) {
+    if shape.board.blue.limit < held_at(shape, job, schedule, true, t) {
         return true;
     }
-    shape.board.red.limit < held_at(shape, job, plan, false, t)
+    shape.board.red.limit < held_at(shape, job, schedule, false, t)
 }
 
 // The least start of a hold in the memory of the colour at which a memory is over its limit, or `last`.
 fn first_over_in<'a>(
     shape: Shape,
     job: &'a [u64; layout::JOB],
-    plan: &'a [u64; layout::PLAN],
-    blue: bool,
+    schedule: &'a [u64; layout::SCHEDULE],
+    colour: bool,
     last: u64,
 ) -> u64
-    requires { ⌜ Bounds shape (jobOf (now job)) (planOf (now plan)) ⌝ }
-    ensures { λ r. ⌜ r ≡ firstOverIn (instanceFrom shape (jobOf (now (job .entry)))) (scheduleFrom shape (planOf (now (plan .entry)))) (colourBy blue) last ⌝ }
+    requires { ⌜ InBounds shape (now job) (now schedule) ⌝ }
+    ensures { λ r. ⌜ r ≡ firstOverIn (instanceOf shape (now (job .entry))) (scheduleOf shape (now (schedule .entry))) (colourBy colour) last ⌝ }
 {
     let mut first: u64 = last;
     let mut i: usize = 0;
     while i < shape.files {
-        let t = hold_start(shape, job, plan, i, blue);
-        first = lesser(first, either(over_at(shape, job, plan, t), t, last));
+        let t = hold_start(shape, job, schedule, i, colour);
+        first = lesser(first, select(over_at(shape, job, schedule, t), t, last));
         i += 1;
     }
     first
@@ -109,25 +109,29 @@ fn first_over_in<'a>(
 pub fn first_over<'a>(
     shape: Shape,
     job: &'a [u64; layout::JOB],
-    plan: &'a [u64; layout::PLAN],
+    schedule: &'a [u64; layout::SCHEDULE],
     last: u64,
 ) -> u64
-    requires { ⌜ Bounds shape (jobOf (now job)) (planOf (now plan)) ⌝ }
-    ensures { λ r. ⌜ r ≡ firstBelow last (over (instanceFrom shape (jobOf (now (job .entry)))) (scheduleFrom shape (planOf (now (plan .entry))))) ⌝ }
+    requires { ⌜ InBounds shape (now job) (now schedule) ⌝ }
+    ensures { λ r. ⌜ r ≡ firstBelow last (over (instanceOf shape (now (job .entry))) (scheduleOf shape (now (schedule .entry)))) ⌝ }
 {
     lesser(
-        first_over_in(shape, job, plan, true, last),
-        first_over_in(shape, job, plan, false, last),
+        first_over_in(shape, job, schedule, true, last),
+        first_over_in(shape, job, schedule, false, last),
     )
 }
 
 // A tick from which on no memory changes any more.
-pub fn settled<'a>(shape: Shape, job: &'a [u64; layout::JOB], plan: &'a [u64; layout::PLAN]) -> u64
-    requires { ⌜ Bounds shape (jobOf (now job)) (planOf (now plan)) ⌝ }
-    ensures { λ r. ⌜ r ≡ max (horizon (instanceFrom shape (jobOf (now (job .entry)))) (scheduleFrom shape (planOf (now (plan .entry)))) rules-blue) (horizon (instanceFrom shape (jobOf (now (job .entry)))) (scheduleFrom shape (planOf (now (plan .entry)))) rules-red) ⌝ }
+pub fn settled<'a>(
+    shape: Shape,
+    job: &'a [u64; layout::JOB],
+    schedule: &'a [u64; layout::SCHEDULE],
+) -> u64
+    requires { ⌜ InBounds shape (now job) (now schedule) ⌝ }
+    ensures { λ r. ⌜ r ≡ max (horizon (instanceOf shape (now (job .entry))) (scheduleOf shape (now (schedule .entry))) rules-blue) (horizon (instanceOf shape (now (job .entry))) (scheduleOf shape (now (schedule .entry))) rules-red) ⌝ }
 {
     greater(
-        horizon_of(shape, job, plan, true),
-        horizon_of(shape, job, plan, false),
+        horizon_of(shape, job, schedule, true),
+        horizon_of(shape, job, schedule, false),
     )
 }

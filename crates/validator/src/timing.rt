@@ -6,14 +6,14 @@ ghost use lib.Dec.{ltb};
 ghost use Rattle.rules.specs.Count.{firstBelow};
 ghost use Rattle.rules.specs.Model.{taskCount};
 ghost use Rattle.rules.specs.Validity.{early, readsEarly, makespan as rules-makespan};
-ghost use Rattle.model.specs.Layout.{jobOf, planOf, instanceFrom, scheduleFrom, Bounds, lastTick};
-use model::choice::either;
+ghost use Rattle.model.specs.Layout.{instanceOf, scheduleOf, InBounds, lastTick};
 use model::choice::greater;
 use model::choice::lesser;
+use model::choice::select;
 use model::layout;
 use model::layout::Shape;
 use model::residency::finish;
-use model::residency::same;
+use model::residency::same_colour;
 
 // Whether a file moves before it is made, or its reader starts before it arrived.
 fn too_early(moves: bool, made: u64, departs: u64, arrives: u64, starts: u64) -> bool
@@ -32,25 +32,25 @@ fn too_early(moves: bool, made: u64, departs: u64, arrives: u64, starts: u64) ->
 fn early_file<'a>(
     shape: Shape,
     job: &'a [u64; layout::JOB],
-    plan: &'a [u64; layout::PLAN],
+    schedule: &'a [u64; layout::SCHEDULE],
     k: usize,
 ) -> bool
-    requires { ⌜ Bounds shape (jobOf (now job)) (planOf (now plan)) ⌝ }
+    requires { ⌜ InBounds shape (now job) (now schedule) ⌝ }
     requires { ⌜ k < shape .files ⌝ }
-    ensures { λ r. ⌜ r ≡ early (instanceFrom shape (jobOf (now (job .entry)))) (scheduleFrom shape (planOf (now (plan .entry)))) k ⌝ }
+    ensures { λ r. ⌜ r ≡ early (instanceOf shape (now (job .entry))) (scheduleOf shape (now (schedule .entry))) k ⌝ }
 {
     let m = layout::maker(job, k) as usize;
     let d = layout::reader(job, k) as usize;
-    let from = layout::on_blue(shape, plan, m);
-    let moves = !same(from, layout::on_blue(shape, plan, d));
-    let departs = layout::move_start(plan, k);
+    let from = layout::on_blue(shape, schedule, m);
+    let moves = !same_colour(from, layout::on_blue(shape, schedule, d));
+    let departs = layout::move_start(schedule, k);
     let arrives = departs + layout::move_time(job, k);
     too_early(
         moves,
-        finish(shape, job, plan, m),
+        finish(shape, job, schedule, m),
         departs,
         arrives,
-        layout::start(plan, d),
+        layout::start(schedule, d),
     )
 }
 
@@ -58,32 +58,36 @@ fn early_file<'a>(
 pub fn first_early<'a>(
     shape: Shape,
     job: &'a [u64; layout::JOB],
-    plan: &'a [u64; layout::PLAN],
+    schedule: &'a [u64; layout::SCHEDULE],
 ) -> u64
-    requires { ⌜ Bounds shape (jobOf (now job)) (planOf (now plan)) ⌝ }
-    ensures { λ r. ⌜ r ≡ firstBelow (taskCount (instanceFrom shape (jobOf (now (job .entry))))) (readsEarly (instanceFrom shape (jobOf (now (job .entry)))) (scheduleFrom shape (planOf (now (plan .entry))))) ⌝ }
+    requires { ⌜ InBounds shape (now job) (now schedule) ⌝ }
+    ensures { λ r. ⌜ r ≡ firstBelow (taskCount (instanceOf shape (now (job .entry)))) (readsEarly (instanceOf shape (now (job .entry))) (scheduleOf shape (now (schedule .entry)))) ⌝ }
 {
     let tasks = shape.tasks as u64;
     let mut first: u64 = tasks;
     let mut i: usize = 0;
     while i < shape.files {
-        let is_early = early_file(shape, job, plan, i);
-        first = lesser(first, either(is_early, layout::reader(job, i), tasks));
+        let is_early = early_file(shape, job, schedule, i);
+        first = lesser(first, select(is_early, layout::reader(job, i), tasks));
         i += 1;
     }
     first
 }
 
 // The greatest finish: document 01's span.
-pub fn makespan<'a>(shape: Shape, job: &'a [u64; layout::JOB], plan: &'a [u64; layout::PLAN]) -> u64
-    requires { ⌜ Bounds shape (jobOf (now job)) (planOf (now plan)) ⌝ }
-    ensures { λ r. ⌜ r ≡ rules-makespan (instanceFrom shape (jobOf (now (job .entry)))) (scheduleFrom shape (planOf (now (plan .entry)))) ⌝ }
+pub fn makespan<'a>(
+    shape: Shape,
+    job: &'a [u64; layout::JOB],
+    schedule: &'a [u64; layout::SCHEDULE],
+) -> u64
+    requires { ⌜ InBounds shape (now job) (now schedule) ⌝ }
+    ensures { λ r. ⌜ r ≡ rules-makespan (instanceOf shape (now (job .entry))) (scheduleOf shape (now (schedule .entry))) ⌝ }
     ensures { λ r. ⌜ r ≤ lastTick ⌝ }
 {
     let mut most: u64 = 0;
     let mut i: usize = 0;
     while i < shape.tasks {
-        most = greater(most, finish(shape, job, plan, i));
+        most = greater(most, finish(shape, job, schedule, i));
         i += 1;
     }
     most

@@ -1,5 +1,5 @@
 -- `mark_paper` meets its contract: what is read is judged, what is not is refused.
-use Rattle.model.specs.Layout.{jobOf, planOf, instanceFrom, scheduleFrom}
+use Rattle.model.specs.Layout.{jobOf, entriesOf, instanceFrom, scheduleFrom}
 use Rattle.model.proofs.LayoutLaws.{job-bounds}
 use Rattle.schedule.proofs.ReadLaws.{read-spellable}
 use Rattle.validator.proofs.SpelledLaws.{spelled-placed, spelled-bounds}
@@ -28,10 +28,10 @@ judge-requires c κs =
     let s = c .before .before .before .before .before .before .before in
     let b = s .args .shape in
     let J = jobOf (s .args .job .now) in
-    let L = planOf (c .before .before .before .before .read .last .1 .1 .1 .0) in
+    let L = entriesOf (c .before .before .before .before .read .last .1 .1 .1 .0) in
     let r = paper-read (instanceFrom b J) (s .args .paper .now) (scheduleFrom b L) (c .before .before .before .before .read .result) (c .before .before .before .before .read .ensures) (c .before .before .claim .given .1) in
     let p = read-spellable b J L _ (s .args .paper .now) r in
-    (record { job = job-bounds b J (s .pre); plan = spelled-bounds b J L _ p }, spelled-placed b J L _ p)
+    (record { job = job-bounds b J (s .pre); schedule = spelled-bounds b J L _ p }, spelled-placed b J L _ p)
 
 returns : tie.Need-returns
 returns c =

@@ -1,7 +1,7 @@
 -- `plan_instance` meets its contract: a stuck planner's answer, or what a complete schedule's writing answers.
 use mathlib.Core.Path.{refl, sym, ap, _∙_}
 use Rattle.rules.proofs.OutcomeLaws.{completed-spellable}
-use Rattle.model.specs.Layout.{jobOf, planOf, instanceFrom, scheduleFrom}
+use Rattle.model.specs.Layout.{jobOf, entriesOf, instanceFrom, scheduleFrom}
 use Rattle.model.proofs.LayoutLaws.{job-bounds}
 use Rattle.validator.proofs.SpelledLaws.{spelled-placed, spelled-bounds}
 use Rattle.planner.specs.Outcomes.{asPlanner}
@@ -25,11 +25,11 @@ write-plan-requires c κs =
     let s = c .before .before .before .before .before .before .before .before in
     let b = s .args .shape in
     let J = jobOf (s .args .job .now) in
-    let L = planOf (c .before .before .before .before .before .run .last .1 .1 .1 .0) in
+    let L = entriesOf (c .before .before .before .before .before .run .last .1 .1 .1 .0) in
     let R = asPlanner (s .args .rule) in
     let o = made-complete R (instanceFrom b J) (s .args .out .now) (scheduleFrom b L) (c .before .before .before .before .before .run .result) (c .before .before .before .before .before .run .ensures) (c .before .before .before .trials .given .1) in
     let p = completed-spellable R (instanceFrom b J) (s .pre) (scheduleFrom b L) _ o in
-    (record { job = job-bounds b J (s .pre); plan = spelled-bounds b J L _ p }, spelled-placed b J L _ p)
+    (record { job = job-bounds b J (s .pre); schedule = spelled-bounds b J L _ p }, spelled-placed b J L _ p)
 
 returns : tie.Need-returns
 returns c =

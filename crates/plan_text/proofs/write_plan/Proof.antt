@@ -5,7 +5,7 @@ use lib.ListN.{length}
 use Rattle.text.specs.Wrote.{Wrote}
 use Rattle.rules.specs.ScheduleText.{scheduleText}
 use Rattle.rules.specs.Validity.{trueClaim}
-use Rattle.model.specs.Layout.{jobOf, planOf, instanceFrom, scheduleFrom}
+use Rattle.model.specs.Layout.{jobOf, entriesOf, instanceFrom, scheduleFrom}
 use Rattle.plan_text.proofs.AnswerLaws.{too-short, long-enough}
 use borrow.Author.Needs.{needs}
 use Rattle.plan_text.proofs.write_plan.Statement.{statement}
@@ -21,7 +21,7 @@ returns : tie.Need-returns
 returns c =
     let s = c .before .before .before .before in
     let I = instanceFrom (s .args .shape) (jobOf (s .args .job .now)) in
-    let P = scheduleFrom (s .args .shape) (planOf (s .args .plan .now)) in
+    let P = scheduleFrom (s .args .shape) (entriesOf (s .args .schedule .now)) in
     let text = scheduleText I P (trueClaim I P) in
     let size : c .before .schedule-size .result ≡ length text = rw (c .before .before .true-claim .ensures .0) at (c .before .schedule-size .ensures) in
     too-short text (s .args .out .now) (s .args .trials) size (c .if1 .taken)
@@ -36,7 +36,7 @@ returns-2 : tie.Need-returns-2
 returns-2 c =
     let s = c .before .before .before .before .before .before .before .before in
     let I = instanceFrom (s .args .shape) (jobOf (s .args .job .now)) in
-    let P = scheduleFrom (s .args .shape) (planOf (s .args .plan .now)) in
+    let P = scheduleFrom (s .args .shape) (entriesOf (s .args .schedule .now)) in
     let text = scheduleText I P (trueClaim I P) in
     let claim = c .before .before .before .before .before .before .true-claim .ensures .0 in
     let size : c .before .before .before .before .before .schedule-size .result ≡ length text = rw claim at (c .before .before .before .before .before .schedule-size .ensures) in

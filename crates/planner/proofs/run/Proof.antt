@@ -6,7 +6,7 @@ use lib.ListN.{length, length-replicate}
 use Rattle.model.proofs.LayoutLaws.{job-bounds}
 use Rattle.placement.proofs.PlaceLaws.{empty-from}
 use Rattle.selection.proofs.ChoiceLaws.{chosen-bounds}
-use Rattle.model.specs.Layout.{jobOf, planOf, planLength, lastLength}
+use Rattle.model.specs.Layout.{jobOf, entriesOf, scheduleLength, lastLength}
 use Rattle.planner.specs.Outcomes.{asPlanner}
 use Rattle.planner.proofs.PlanningLaws.{Planning, planning-start, planning-bounds, planning-last, planning-stuck, planning-processor, planning-next, planning-done}
 use borrow.Author.Needs.{needs}
@@ -14,11 +14,11 @@ use Rattle.planner.proofs.run.Statement.{statement}
 use Rattle.planner.proofs.run.Tie as tie
 
 abbrev Inv-loop : tie.InvT-loop
-Inv-loop rule shape job plan₀ order last₀ placed₀ trials₀ plan last placed trials =
-    (length plan ≡ planLength) × (length last ≡ lastLength) × Planning (asPlanner rule) shape (jobOf job) (planOf plan) last placed trials
+Inv-loop rule shape job schedule₀ order last₀ placed₀ trials₀ schedule last placed trials =
+    (length schedule ≡ scheduleLength) × (length last ≡ lastLength) × Planning (asPlanner rule) shape (jobOf job) (entriesOf schedule) last placed trials
 
 abbrev μ-loop : tie.MeasureT-loop
-μ-loop rule shape job plan₀ order last₀ placed₀ trials₀ plan last placed trials = shape .tasks - placed
+μ-loop rule shape job schedule₀ order last₀ placed₀ trials₀ schedule last placed trials = shape .tasks - placed
 
 by-weight-requires : tie.Need-by-weight-requires Inv-loop μ-loop
 by-weight-requires c κs = search needs
@@ -26,7 +26,7 @@ by-weight-requires c κs = search needs
 loop-holds : tie.Need-loop-holds Inv-loop μ-loop
 loop-holds c =
     let s = c .before in
-    (rw (s .pre .1) (length-replicate {A = ℕ} planLength 0), refl, planning-start (asPlanner (s .args .rule)) (s .args .shape) (jobOf (s .args .job .now)) (s .pre .0) _ _ (rw (s .pre .1) (empty-from (s .args .shape) (jobOf (s .args .job .now)) planLength lastLength)))
+    (rw (s .pre .1) (length-replicate {A = ℕ} scheduleLength 0), refl, planning-start (asPlanner (s .args .rule)) (s .args .shape) (jobOf (s .args .job .now)) (s .pre .0) _ _ (rw (s .pre .1) (empty-from (s .args .shape) (jobOf (s .args .job .now)) scheduleLength lastLength)))
 
 round-requires : tie.Need-round-requires Inv-loop μ-loop
 round-requires c κs =

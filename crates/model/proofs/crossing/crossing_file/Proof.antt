@@ -1,7 +1,7 @@
 -- `crossing_file` meets its contract.
 use native.Mathlib.Omega.{arith}
 use Rattle.model.proofs.CrossingLaws.{crossing-yes, crossing-no}
-use Rattle.model.specs.Layout.{planOf}
+use Rattle.model.specs.Layout.{entriesOf}
 use borrow.Author.Needs.{needs}
 use Rattle.model.proofs.crossing.crossing_file.Statement.{statement}
 use Rattle.model.proofs.crossing.crossing_file.Tie as tie
@@ -15,18 +15,18 @@ maker-requires c κs = search needs
 on-blue-requires : tie.Need-on-blue-requires
 on-blue-requires c κs = let s = c .before .before .before in omega (arith, s .pre .0 .maker (s .args .k) (s .pre .1), s .pre .0 .tasks)
 
-same-requires : tie.Need-same-requires
-same-requires c κs = search needs
+same-colour-requires : tie.Need-same-colour-requires
+same-colour-requires c κs = search needs
 
 returns : tie.Need-returns
 returns c =
     let s = c .before .before .before .before .before in
-    crossing-yes (s .pre .0) (planOf (s .args .plan .now)) (s .pre .1) (s .args .task) (s .args .colour) (c .before .before .before .before .reader .ensures) (c .before .before .before .if1 .taken) (c .before .before .maker .ensures) (c .before .on-blue .ensures) (c .same .ensures)
+    crossing-yes (s .pre .0) (entriesOf (s .args .schedule .now)) (s .pre .1) (s .args .task) (s .args .colour) (c .before .before .before .before .reader .ensures) (c .before .before .before .if1 .taken) (c .before .before .maker .ensures) (c .before .on-blue .ensures) (c .same-colour .ensures)
 
 returns-2 : tie.Need-returns-2
-returns-2 c = let s = c .before .before in crossing-no (s .pre .0) (planOf (s .args .plan .now)) (s .pre .1) (s .args .task) (s .args .colour) (c .before .reader .ensures) (c .if1 .left)
+returns-2 c = let s = c .before .before in crossing-no (s .pre .0) (entriesOf (s .args .schedule .now)) (s .pre .1) (s .args .task) (s .args .colour) (c .before .reader .ensures) (c .if1 .left)
 
 pub crossing-file-spec : {M : Type 1} → statement M
 crossing-file-spec =
     tie.close
-    (tie.spec reader-requires maker-requires on-blue-requires same-requires returns returns-2)
+    (tie.spec reader-requires maker-requires on-blue-requires same-colour-requires returns returns-2)

@@ -6,7 +6,7 @@ use Rattle.rules.specs.Count.{sumWhere}
 use Rattle.rules.specs.Limits.{fileSizes}
 use Rattle.rules.specs.Model.{sizeAt}
 use Rattle.rules.specs.Residency.{isHeld}
-use Rattle.model.specs.Layout.{jobOf, planOf, instanceFrom, scheduleFrom, colourBy}
+use Rattle.model.specs.Layout.{jobOf, entriesOf, instanceFrom, scheduleFrom, colourBy}
 use Rattle.model.proofs.StepLaws.{sum-none}
 use Rattle.model.proofs.ResidencyLoops.{held-turn, held-total}
 use borrow.Author.Needs.{needs}
@@ -14,12 +14,12 @@ use Rattle.model.proofs.residency.held_at.Statement.{statement}
 use Rattle.model.proofs.residency.held_at.Tie as tie
 
 abbrev Inv-loop : tie.InvT-loop
-Inv-loop shape job plan colour t sum₀ i₀ sum i =
+Inv-loop shape job schedule colour t sum₀ i₀ sum i =
     (i ≤ shape .files) × (sum ≤ fileSizes .most * i)
-    × (sum ≡ sumWhere i (isHeld (instanceFrom shape (jobOf job)) (scheduleFrom shape (planOf plan)) (colourBy colour) t) (sizeAt (instanceFrom shape (jobOf job))))
+    × (sum ≡ sumWhere i (isHeld (instanceFrom shape (jobOf job)) (scheduleFrom shape (entriesOf schedule)) (colourBy colour) t) (sizeAt (instanceFrom shape (jobOf job))))
 
 abbrev μ-loop : tie.MeasureT-loop
-μ-loop shape job plan colour t sum₀ i₀ sum i = shape .files - i
+μ-loop shape job schedule colour t sum₀ i₀ sum i = shape .files - i
 
 loop-holds : tie.Need-loop-holds Inv-loop μ-loop
 loop-holds c = (omega arith, omega arith, sym (sum-none _))
@@ -33,8 +33,8 @@ covers-requires c κs = search needs
 size-requires : tie.Need-size-requires Inv-loop μ-loop
 size-requires c κs = search needs
 
-when-requires : tie.Need-when-requires Inv-loop μ-loop
-when-requires c κs = search needs
+value-if-requires : tie.Need-value-if-requires Inv-loop μ-loop
+value-if-requires c κs = search needs
 
 add-sum : tie.Need-add-sum Inv-loop μ-loop
 add-sum c = let s = c .before .before .before .before .before .before .before in omega (arith, s .pre .job .size (c .before .before .before .before .before .before .loop .i) (c .before .before .before .before .if1 .taken))
@@ -49,7 +49,7 @@ loop-again : tie.Need-loop-again Inv-loop μ-loop
 loop-again c =
     let s = c .before .before .before .before .before .before .before in
     let h = c .before .before .before .before .if1 .taken in
-    omega (arith, s .pre .job .size (c .before .before .before .before .before .before .loop .i) h, held-turn (s .pre) (colourBy (s .args .colour)) h (s .args .t) (c .when .result) (c .before .size .result) (c .before .before .before .hold-of .result) (c .before .before .covers .result) (c .before .before .before .hold-of .ensures .0) (c .before .before .covers .ensures) (c .before .size .ensures) (c .when .ensures .0))
+    omega (arith, s .pre .job .size (c .before .before .before .before .before .before .loop .i) h, held-turn (s .pre) (colourBy (s .args .colour)) h (s .args .t) (c .value-if .result) (c .before .size .result) (c .before .before .before .hold-of .result) (c .before .before .covers .result) (c .before .before .before .hold-of .ensures .0) (c .before .before .covers .ensures) (c .before .size .ensures) (c .value-if .ensures .0))
 
 returns : tie.Need-returns Inv-loop μ-loop
 returns c =
@@ -66,7 +66,7 @@ held-at-spec =
     hold-of-requires
     covers-requires
     size-requires
-    when-requires
+    value-if-requires
     add-sum
     add-i
     loop-less

@@ -18,8 +18,8 @@ on-blue-requires c κs = let s = c .before .before in omega (arith, s .pre .0 .j
 on-blue-requires-2 : tie.Need-on-blue-requires-2
 on-blue-requires-2 c κs = let s = c .before .before .before in omega (arith, s .pre .0 .job .reader (s .args .k) (s .pre .1), s .pre .0 .job .tasks)
 
-same-requires : tie.Need-same-requires
-same-requires c κs = search needs
+same-colour-requires : tie.Need-same-colour-requires
+same-colour-requires c κs = search needs
 
 move-start-requires : tie.Need-move-start-requires
 move-start-requires c κs = search needs
@@ -28,7 +28,7 @@ move-time-requires : tie.Need-move-time-requires
 move-time-requires c κs = search needs
 
 add-arrives : tie.Need-add-arrives
-add-arrives c = let s = c .before .before .before .before .before .before .before in omega (arith, s .pre .0 .job .moveTime (s .args .k) (s .pre .1), s .pre .0 .plan .moveStart (s .args .k) (s .pre .1))
+add-arrives c = let s = c .before .before .before .before .before .before .before in omega (arith, s .pre .0 .job .moveTime (s .args .k) (s .pre .1), s .pre .0 .schedule .moveStart (s .args .k) (s .pre .1))
 
 processor-requires : tie.Need-processor-requires
 processor-requires c κs = let s = c .before .before .before .before .before .before .before in omega (arith, s .pre .0 .job .maker (s .args .k) (s .pre .1), s .pre .0 .job .tasks)
@@ -36,8 +36,8 @@ processor-requires c κs = let s = c .before .before .before .before .before .be
 processor-requires-2 : tie.Need-processor-requires-2
 processor-requires-2 c κs = let s = c .before .before .before .before .before .before .before .before in omega (arith, s .pre .0 .job .reader (s .args .k) (s .pre .1), s .pre .0 .job .tasks)
 
-same-requires-2 : tie.Need-same-requires-2
-same-requires-2 c κs = search needs
+same-colour-requires-2 : tie.Need-same-colour-requires-2
+same-colour-requires-2 c κs = search needs
 
 start-requires : tie.Need-start-requires
 start-requires c κs = let s = c .before .before .before .before .before .before .before .before .before .before in omega (arith, s .pre .0 .job .maker (s .args .k) (s .pre .1), s .pre .0 .job .tasks)
@@ -55,9 +55,9 @@ returns c =
     let h = s .pre .1 in (
       c .hold-when .ensures .0
           ∙ hold-from (s .pre .0) h (s .args .colour) (c .before .before .before .before .before .before .before .before .before .before .before .before .maker .ensures) (c .before .before .before .before .before .before .before .before .before .before .before .reader .ensures) (c .before .before .before .before .before .before .before .before .before .before .on-blue .ensures) (c .before .before .before .before .before .before .before .before .before .on-blue2 .ensures)
-          (c .before .before .before .before .before .before .before .before .same .ensures) (c .before .before .before .same2 .ensures) (c .before .before .before .before .before .processor .ensures) (c .before .before .before .before .processor2 .ensures) (c .before .before .start .ensures)
+          (c .before .before .before .before .before .before .before .before .same-colour .ensures) (c .before .before .before .same-colour2 .ensures) (c .before .before .before .before .before .processor .ensures) (c .before .before .before .before .processor2 .ensures) (c .before .before .start .ensures)
           (c .before .before .before .before .before .before .before .move-start .ensures) (c .before .before .before .before .before .before .move-time .ensures) (c .before .finish .ensures .0),
-      omega (arith, s .pre .0 .job .moveTime k h, s .pre .0 .plan .moveStart k h, s .pre .0 .plan .start (c .before .before .before .before .before .before .before .before .before .before .before .before .maker .result) (omega (arith, s .pre .0 .job .maker k h, c .before .before .before .before .before .before .before .before .before .before .before .before .maker .ensures)), c .before .before .start .ensures, c .before .before .before .before .before .before .before .move-start .ensures, c .before .before .before .before .before .before .move-time .ensures),
+      omega (arith, s .pre .0 .job .moveTime k h, s .pre .0 .schedule .moveStart k h, s .pre .0 .schedule .start (c .before .before .before .before .before .before .before .before .before .before .before .before .maker .result) (omega (arith, s .pre .0 .job .maker k h, c .before .before .before .before .before .before .before .before .before .before .before .before .maker .ensures)), c .before .before .start .ensures, c .before .before .before .before .before .before .before .move-start .ensures, c .before .before .before .before .before .before .move-time .ensures),
     )
 
 pub hold-of-spec : {M : Type 1} → statement M
@@ -68,13 +68,13 @@ hold-of-spec =
     reader-requires
     on-blue-requires
     on-blue-requires-2
-    same-requires
+    same-colour-requires
     move-start-requires
     move-time-requires
     add-arrives
     processor-requires
     processor-requires-2
-    same-requires-2
+    same-colour-requires-2
     start-requires
     finish-requires
     hold-when-requires

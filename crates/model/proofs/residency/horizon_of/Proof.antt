@@ -4,7 +4,7 @@ use mathlib.Core.Path.{_≡_, sym}
 use native.Mathlib.Omega.{arith}
 use Rattle.rules.specs.Count.{maxBelow}
 use Rattle.rules.specs.Residency.{settlesAt}
-use Rattle.model.specs.Layout.{jobOf, planOf, instanceFrom, scheduleFrom, colourBy, lastTick}
+use Rattle.model.specs.Layout.{jobOf, entriesOf, instanceFrom, scheduleFrom, colourBy, lastTick}
 use Rattle.model.proofs.StepLaws.{max-none}
 use Rattle.model.proofs.ResidencyLoops.{horizon-turn, horizon-total}
 use borrow.Author.Needs.{needs}
@@ -12,11 +12,11 @@ use Rattle.model.proofs.residency.horizon_of.Statement.{statement}
 use Rattle.model.proofs.residency.horizon_of.Tie as tie
 
 abbrev Inv-loop : tie.InvT-loop
-Inv-loop shape job plan colour most₀ i₀ most i =
-    (i ≤ shape .files) × (most ≤ lastTick) × (most ≡ maxBelow i (settlesAt (instanceFrom shape (jobOf job)) (scheduleFrom shape (planOf plan)) (colourBy colour)))
+Inv-loop shape job schedule colour most₀ i₀ most i =
+    (i ≤ shape .files) × (most ≤ lastTick) × (most ≡ maxBelow i (settlesAt (instanceFrom shape (jobOf job)) (scheduleFrom shape (entriesOf schedule)) (colourBy colour)))
 
 abbrev μ-loop : tie.MeasureT-loop
-μ-loop shape job plan colour most₀ i₀ most i = shape .files - i
+μ-loop shape job schedule colour most₀ i₀ most i = shape .files - i
 
 loop-holds : tie.Need-loop-holds Inv-loop μ-loop
 loop-holds c = (omega arith, omega arith, sym (max-none _))

@@ -1,6 +1,6 @@
 -- `move_with` meets its contract.
 use mathlib.Core.Path.{_∙_}
-use Rattle.model.specs.Layout.{planOf, colourBy}
+use Rattle.model.specs.Layout.{entriesOf, colourBy}
 use Rattle.placement.proofs.MoveLaws.{move-from}
 use borrow.Author.Needs.{needs}
 use Rattle.placement.proofs.moves.move_with.Statement.{statement}
@@ -12,20 +12,20 @@ crossing-file-requires c κs = search needs
 move-time-requires : tie.Need-move-time-requires
 move-time-requires c κs = search needs
 
-less-requires : tie.Need-less-requires
-less-requires c κs = search needs
+saturating-sub-requires : tie.Need-saturating-sub-requires
+saturating-sub-requires c κs = search needs
 
 move-start-requires : tie.Need-move-start-requires
 move-start-requires c κs = search needs
 
-either-requires : tie.Need-either-requires
-either-requires c κs = search needs
+select-requires : tie.Need-select-requires
+select-requires c κs = search needs
 
 returns : tie.Need-returns
 returns c =
     let s = c .before .before .before .before .before in
-    c .either .ensures .0
-    ∙ move-from (s .pre .0) (planOf (s .args .plan .now)) (s .pre .1) (s .args .i) (colourBy (s .args .blue)) (s .args .start) (c .before .before .before .before .crossing-file .ensures) (c .before .before .before .move-time .ensures) (c .before .before .less .ensures) (c .before .move-start .ensures)
+    c .select .ensures .0
+    ∙ move-from (s .pre .0) (entriesOf (s .args .schedule .now)) (s .pre .1) (s .args .i) (colourBy (s .args .colour)) (s .args .start) (c .before .before .before .before .crossing-file .ensures) (c .before .before .before .move-time .ensures) (c .before .before .saturating-sub .ensures) (c .before .move-start .ensures)
 
 pub move-with-spec : {M : Type 1} → statement M
 move-with-spec =
@@ -33,7 +33,7 @@ move-with-spec =
     (tie.spec
     crossing-file-requires
     move-time-requires
-    less-requires
+    saturating-sub-requires
     move-start-requires
-    either-requires
+    select-requires
     returns)

@@ -8,10 +8,10 @@ use Rattle.placement.proofs.moves.set_moves.Statement.{statement}
 use Rattle.placement.proofs.moves.set_moves.Tie as tie
 
 abbrev Inv-loop : tie.InvT-loop
-Inv-loop shape job plan₀ i blue start k₀ plan k = (k ≤ shape .files) × ((f : JobBounds shape (jobOf job)) → MovesTo f plan₀ i (colourBy blue) start plan k)
+Inv-loop shape job schedule₀ i colour start k₀ schedule k = (k ≤ shape .files) × ((f : JobBounds shape (jobOf job)) → MovesTo f schedule₀ i (colourBy colour) start schedule k)
 
 abbrev μ-loop : tie.MeasureT-loop
-μ-loop shape job plan₀ i blue start k₀ plan k = shape .files - k
+μ-loop shape job schedule₀ i colour start k₀ schedule k = shape .files - k
 
 loop-holds : tie.Need-loop-holds Inv-loop μ-loop
 loop-holds c = (omega arith, λ f. moves-none f _ _ _ _ (c .pre .1))
@@ -19,14 +19,14 @@ loop-holds c = (omega arith, λ f. moves-none f _ _ _ _ (c .pre .1))
 move-with-requires : tie.Need-move-with-requires Inv-loop μ-loop
 move-with-requires c κs = search needs
 
-add-plan : tie.Need-add-plan Inv-loop μ-loop
-add-plan c = search needs
+add-schedule : tie.Need-add-schedule Inv-loop μ-loop
+add-schedule c = search needs
 
-mul-plan : tie.Need-mul-plan Inv-loop μ-loop
-mul-plan c = search needs
+mul-schedule : tie.Need-mul-schedule Inv-loop μ-loop
+mul-schedule c = search needs
 
-element-write-plan : tie.Need-element-write-plan Inv-loop μ-loop
-element-write-plan c = search needs
+element-write-schedule : tie.Need-element-write-schedule Inv-loop μ-loop
+element-write-schedule c = search needs
 
 add-k : tie.Need-add-k Inv-loop μ-loop
 add-k c = search needs
@@ -44,7 +44,7 @@ returns : tie.Need-returns Inv-loop μ-loop
 returns c =
     let s = c .before .before .before in
     let m = c .before .before .loop .inv .1 (s .pre .0) in
-    (m .size, (m .runs, moves-total (s .pre .0) (s .args .plan .now) (s .args .i) (colourBy (s .args .blue)) (s .args .start) (omega arith) m))
+    (m .size, (m .runs, moves-total (s .pre .0) (s .args .schedule .now) (s .args .i) (colourBy (s .args .colour)) (s .args .start) (omega arith) m))
 
 pub set-moves-spec : {M : Type 1} → statement M
 set-moves-spec =
@@ -54,9 +54,9 @@ set-moves-spec =
     μ-loop
     loop-holds
     move-with-requires
-    add-plan
-    mul-plan
-    element-write-plan
+    add-schedule
+    mul-schedule
+    element-write-schedule
     add-k
     loop-less
     loop-again

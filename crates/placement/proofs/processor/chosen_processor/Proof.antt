@@ -11,10 +11,10 @@ use Rattle.placement.proofs.processor.chosen_processor.Statement.{state
 use Rattle.placement.proofs.processor.chosen_processor.Tie as tie
 
 abbrev Inv-loop : tie.InvT-loop
-Inv-loop shape last blue start n latest p₀ p = (p ≤ n) × (n ≡ countIn shape blue) × (latest ≡ latestIn shape last blue start) × ((q : ℕ) → q < p → suitsIn shape last blue start q ≡ false)
+Inv-loop shape last colour start n latest p₀ p = (p ≤ n) × (n ≡ countIn shape colour) × (latest ≡ latestIn shape last colour start) × ((q : ℕ) → q < p → suitsIn shape last colour start q ≡ false)
 
 abbrev μ-loop : tie.MeasureT-loop
-μ-loop shape last blue start n latest p₀ p = n - p
+μ-loop shape last colour start n latest p₀ p = n - p
 
 count-in-requires : tie.Need-count-in-requires Inv-loop μ-loop
 count-in-requires c κs = search needs
@@ -28,15 +28,15 @@ loop-holds c = (omega arith, c .before .count-in .ensures, c .latest-in .ensures
 last-in-requires : tie.Need-last-in-requires Inv-loop μ-loop
 last-in-requires c κs = search needs
 
-suits-requires : tie.Need-suits-requires Inv-loop μ-loop
-suits-requires c κs = search needs
+is-latest-free-requires : tie.Need-is-latest-free-requires Inv-loop μ-loop
+is-latest-free-requires c κs = search needs
 
 returns : tie.Need-returns Inv-loop μ-loop
 returns c =
     let s = c .before .before .before .before .before .before .before in
     let at = c .before .before .before .before .loop in λ J L.
-    chosen-first (s .args .shape) (s .args .last .now) (s .args .blue) (s .args .start) J L (at .p) (omega (arith, at .inv .0, at .inv .1)) (at .inv .3)
-    (λ l. suits-from (s .args .shape) (s .args .last .now) (s .args .blue) (s .args .start) (at .p) (c .before .before .last-in .ensures) (at .inv .2) (c .before .suits .ensures) (c .if1 .taken))
+    chosen-first (s .args .shape) (s .args .last .now) (s .args .colour) (s .args .start) J L (at .p) (omega (arith, at .inv .0, at .inv .1)) (at .inv .3)
+    (λ l. suits-from (s .args .shape) (s .args .last .now) (s .args .colour) (s .args .start) (at .p) (c .before .before .last-in .ensures) (at .inv .2) (c .before .is-latest-free .ensures) (c .if1 .taken))
 
 add-p : tie.Need-add-p Inv-loop μ-loop
 add-p c = search needs
@@ -51,14 +51,14 @@ loop-again c =
       omega arith,
       at .inv .1,
       at .inv .2,
-      below-more _ _ (at .inv .3) (suits-from (s .args .shape) (s .args .last .now) (s .args .blue) (s .args .start) (at .p) (c .before .before .last-in .ensures) (at .inv .2) (c .before .suits .ensures) (c .if1 .left)),
+      below-more _ _ (at .inv .3) (suits-from (s .args .shape) (s .args .last .now) (s .args .colour) (s .args .start) (at .p) (c .before .before .last-in .ensures) (at .inv .2) (c .before .is-latest-free .ensures) (c .if1 .left)),
     )
 
 returns-2 : tie.Need-returns-2 Inv-loop μ-loop
 returns-2 c =
     let s = c .before .before .before .before in
     let at = c .before .loop in λ J L.
-    chosen-first (s .args .shape) (s .args .last .now) (s .args .blue) (s .args .start) J L (at .p) (omega (arith, at .inv .0, at .inv .1)) (at .inv .3)
+    chosen-first (s .args .shape) (s .args .last .now) (s .args .colour) (s .args .start) J L (at .p) (omega (arith, at .inv .0, at .inv .1)) (at .inv .3)
     (λ l. absurd (omega (arith, at .inv .1)))
 
 pub chosen-processor-spec : {M : Type 1} → statement M
@@ -71,7 +71,7 @@ chosen-processor-spec =
     latest-in-requires
     loop-holds
     last-in-requires
-    suits-requires
+    is-latest-free-requires
     returns
     add-p
     loop-less

@@ -14,10 +14,10 @@ use Rattle.placement.proofs.processor.latest_in.Statement.{statement}
 use Rattle.placement.proofs.processor.latest_in.Tie as tie
 
 abbrev Inv-loop : tie.InvT-loop
-Inv-loop shape last blue start n most₀ p₀ most p = (p ≤ n) × (n ≡ countIn shape blue) × (most ≡ maxWhere p (freeIn shape last blue start) (lastIn shape last blue))
+Inv-loop shape last colour start n most₀ p₀ most p = (p ≤ n) × (n ≡ countIn shape colour) × (most ≡ maxWhere p (freeIn shape last colour start) (lastIn shape last colour))
 
 abbrev μ-loop : tie.MeasureT-loop
-μ-loop shape last blue start n most₀ p₀ most p = n - p
+μ-loop shape last colour start n most₀ p₀ most p = n - p
 
 count-in-requires : tie.Need-count-in-requires Inv-loop μ-loop
 count-in-requires c κs = search needs
@@ -28,8 +28,8 @@ loop-holds c = (omega arith, c .count-in .ensures, sym (max-none _))
 last-in-requires : tie.Need-last-in-requires Inv-loop μ-loop
 last-in-requires c κs = search needs
 
-when-requires : tie.Need-when-requires Inv-loop μ-loop
-when-requires c κs = search needs
+value-if-requires : tie.Need-value-if-requires Inv-loop μ-loop
+value-if-requires c κs = search needs
 
 greater-requires : tie.Need-greater-requires Inv-loop μ-loop
 greater-requires c κs = search needs
@@ -44,13 +44,13 @@ loop-again : tie.Need-loop-again Inv-loop μ-loop
 loop-again c =
     let s = c .before .before .before .before .before .before in
     let at = c .before .before .before .before .loop in
-    omega (arith, at .inv .1, at .inv .2, latest-turn (s .args .shape) (s .args .last .now) (s .args .blue) (s .args .start) (at .p) (c .before .when .result) (c .before .before .last-in .result) (c .before .before .last-in .ensures) (c .before .when .ensures .0))
+    omega (arith, at .inv .1, at .inv .2, latest-turn (s .args .shape) (s .args .last .now) (s .args .colour) (s .args .start) (at .p) (c .before .value-if .result) (c .before .before .last-in .result) (c .before .before .last-in .ensures) (c .before .value-if .ensures .0))
 
 returns : tie.Need-returns Inv-loop μ-loop
 returns c =
     let s = c .before .before .before in
     let at = c .before .loop in
-    at .inv .2 ∙ latest-total (s .args .shape) (s .args .last .now) (s .args .blue) (s .args .start) (omega (arith, at .inv .1))
+    at .inv .2 ∙ latest-total (s .args .shape) (s .args .last .now) (s .args .colour) (s .args .start) (omega (arith, at .inv .1))
 
 pub latest-in-spec : {M : Type 1} → statement M
 latest-in-spec =
@@ -61,7 +61,7 @@ latest-in-spec =
     count-in-requires
     loop-holds
     last-in-requires
-    when-requires
+    value-if-requires
     greater-requires
     add-p
     loop-less

@@ -9,7 +9,7 @@ returns : tie.Need-returns
 returns c = slot-blue (c .before .pre .0) (c .before .args .p) (c .if1 .taken) (c .before .pre .1)
 
 add-result : tie.Need-add-result
-add-result c = let s = c .before in omega (arith, count-most (s .pre .0) (s .args .blue), s .pre .0 .blue .most, s .pre .1)
+add-result c = let s = c .before in omega (arith, count-most (s .pre .0) (s .args .colour), s .pre .0 .blue .most, s .pre .1)
 
 returns-2 : tie.Need-returns-2
 returns-2 c = slot-red (c .before .pre .0) (c .before .args .p) (c .if1 .left) (c .before .pre .1)

@@ -3,7 +3,7 @@ use Prim.Native.Nat.{_+_}
 use lib.ListN.{length-set}
 use Rattle.placement.proofs.PlaceLaws.{run-length, placed}
 use native.Mathlib.Omega.{arith}
-use Rattle.model.specs.Layout.{jobOf, planOf}
+use Rattle.model.specs.Layout.{jobOf, entriesOf}
 use Rattle.placement.proofs.SlotLaws.{chosen-exists}
 use borrow.Author.Needs.{needs}
 use Rattle.placement.proofs.task.place.Statement.{statement}
@@ -19,8 +19,8 @@ slot-in-requires : tie.Need-slot-in-requires
 slot-in-requires c κs =
     let s = c .before .before .before .before in
     let J = jobOf (s .args .job .now) in
-    let L = planOf (s .args .plan .now) in
-    (s .pre .0 .processors, chosen-exists (s .args .shape) (s .args .last .now) (s .args .blue) (s .args .start) J L (s .pre .0 .processors) (s .pre .1 .1 .1) (c .chosen-processor .ensures J L))
+    let L = entriesOf (s .args .schedule .now) in
+    (s .pre .0 .processors, chosen-exists (s .args .shape) (s .args .last .now) (s .args .colour) (s .args .start) J L (s .pre .0 .processors) (s .pre .1 .1 .1) (c .chosen-processor .ensures J L))
 
 add-set-run : tie.Need-add-set-run
 add-set-run c = search needs
@@ -48,17 +48,17 @@ returns : tie.Need-returns
 returns c =
     let s = c .before .before .before .before .before .before .before .before in
     let J = jobOf (s .args .job .now) in
-    let L = planOf (s .args .plan .now) in
+    let L = entriesOf (s .args .schedule .now) in
     let moves = c .before .before .before .before .before .before .set-moves in
     let chosen = c .before .before .before .before .chosen-processor .ensures J L in
     let slot = c .before .before .before .slot-in in
     let run = c .before .set-run .ensures in
-    let exists = chosen-exists (s .args .shape) (s .args .last .now) (s .args .blue) (s .args .start) J L (s .pre .0 .processors) (s .pre .1 .1 .1) chosen in (
+    let exists = chosen-exists (s .args .shape) (s .args .last .now) (s .args .colour) (s .args .start) J L (s .pre .0 .processors) (s .pre .1 .1 .1) chosen in (
       (
         run-length (moves .last .1 .1 .0) (s .args .i) (slot .result + 1) (s .args .start) run (moves .ensures .0),
         simp length-set (s .pre .1 .0 .1),
       ),
-      placed (s .pre .0) (s .args .plan .now) (s .args .last .now) (s .args .blue) (s .pre .1 .1 .0 .0) (s .args .start) (moves .last .1 .1 .0) (moves .ensures .0) (moves .ensures .1 .0)
+      placed (s .pre .0) (s .args .schedule .now) (s .args .last .now) (s .args .colour) (s .pre .1 .1 .0 .0) (s .args .start) (moves .last .1 .1 .0) (moves .ensures .0) (moves .ensures .1 .0)
           (c .before .before .before .before .chosen-processor .result) (s .pre .1 .0 .1) (moves .ensures .1 .1) chosen exists (slot .ensures .0) (c .run-time .ensures .0) run,
     )
 

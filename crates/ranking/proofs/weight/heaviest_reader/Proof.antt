@@ -48,8 +48,8 @@ add-path c =
 maker-requires : tie.Need-maker-requires Inv-loop μ-loop
 maker-requires c κs = let s = c .before .before .before .before .before .before in omega (arith, job-bounds (s .args .shape) (jobOf (s .args .job .now)) (s .pre .0) .files, c .before .before .before .if1 .taken)
 
-when-requires : tie.Need-when-requires Inv-loop μ-loop
-when-requires c κs = search needs
+value-if-requires : tie.Need-value-if-requires Inv-loop μ-loop
+value-if-requires c κs = search needs
 
 greater-requires : tie.Need-greater-requires Inv-loop μ-loop
 greater-requires c κs = search needs
@@ -64,7 +64,7 @@ loop-again : tie.Need-loop-again Inv-loop μ-loop
 loop-again c =
     let s = c .before .before .before .before .before .before .before .before .before in
     let h = c .before .before .before .before .before .before .if1 .taken in
-    omega (arith, reader-turn (s .args .shape) (jobOf (s .args .job .now)) (s .pre .0) (s .args .i) (s .pre .1) h (c .before .before .maker .ensures) (c .before .before .before .before .before .reader .ensures) (c .before .before .before .before .move-time .ensures) (c .before .when .ensures .0))
+    omega (arith, reader-turn (s .args .shape) (jobOf (s .args .job .now)) (s .pre .0) (s .args .i) (s .pre .1) h (c .before .before .maker .ensures) (c .before .before .before .before .before .reader .ensures) (c .before .before .before .before .move-time .ensures) (c .before .value-if .ensures .0))
 
 returns : tie.Need-returns Inv-loop μ-loop
 returns c =
@@ -84,7 +84,7 @@ heaviest-reader-spec =
     element-copy-out-path
     add-path
     maker-requires
-    when-requires
+    value-if-requires
     greater-requires
     add-k
     loop-less

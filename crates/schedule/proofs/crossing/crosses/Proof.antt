@@ -13,11 +13,11 @@ on-blue-requires c κs = search needs
 on-blue-requires-2 : tie.Need-on-blue-requires-2
 on-blue-requires-2 c κs = search needs
 
-same-requires : tie.Need-same-requires
-same-requires c κs = search needs
+same-colour-requires : tie.Need-same-colour-requires
+same-colour-requires c κs = search needs
 
 returns : tie.Need-returns
-returns c = ap not (c .same .ensures ∙ ap₂ (λ a b. sameColour (colourBy a) (colourBy b)) (c .before .before .on-blue .ensures) (c .before .on-blue2 .ensures))
+returns c = ap not (c .same-colour .ensures ∙ ap₂ (λ a b. sameColour (colourBy a) (colourBy b)) (c .before .before .on-blue .ensures) (c .before .on-blue2 .ensures))
 
 pub crosses-spec : {M : Type 1} → statement M
-crosses-spec = tie.close (tie.spec on-blue-requires on-blue-requires-2 same-requires returns)
+crosses-spec = tie.close (tie.spec on-blue-requires on-blue-requires-2 same-colour-requires returns)

@@ -13,20 +13,20 @@ between-requires-2 c κs = search needs
 between-requires-3 : tie.Need-between-requires-3
 between-requires-3 c κs = search needs
 
-all-requires : tie.Need-all-requires
-all-requires c κs = search needs
+all-three-requires : tie.Need-all-three-requires
+all-three-requires c κs = search needs
 
 returns : tie.Need-returns
 returns c =
     let d = c .before in
     let e = d .before .before .before in
-    in-ranges _ (d .all .ensures) (e .between .ensures) (d .before .before .between2 .ensures) (d .before .between3 .ensures) (c .if1 .taken)
+    in-ranges _ (d .all-three .ensures) (e .between .ensures) (d .before .before .between2 .ensures) (d .before .between3 .ensures) (c .if1 .taken)
 
 returns-2 : tie.Need-returns-2
 returns-2 c =
     let d = c .before in
     let e = d .before .before .before in
-    out-of-ranges _ (d .all .ensures) (e .between .ensures) (d .before .before .between2 .ensures) (d .before .between3 .ensures) (c .if1 .left)
+    out-of-ranges _ (d .all-three .ensures) (e .between .ensures) (d .before .before .between2 .ensures) (d .before .between3 .ensures) (c .if1 .left)
 
 pub move-of-spec : {M : Type 1} → statement M
 move-of-spec =
@@ -35,6 +35,6 @@ move-of-spec =
     between-requires
     between-requires-2
     between-requires-3
-    all-requires
+    all-three-requires
     returns
     returns-2)

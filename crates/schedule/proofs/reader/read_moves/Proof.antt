@@ -3,17 +3,17 @@ use Prim.Native.Nat.{_-_}
 use mathlib.Core.Path.{_∙_}
 use native.Mathlib.Omega.{arith}
 use borrow.Author.Needs.{needs}
-use Rattle.model.specs.Layout.{jobOf, planOf}
+use Rattle.model.specs.Layout.{jobOf, entriesOf}
 use Rattle.schedule.proofs.CrossingLaws.{moved-so-far}
 use Rattle.schedule.proofs.ReadLoops.{MovesRead, moves-start, moves-refused, moves-next, moves-skip, moves-end}
 use Rattle.schedule.proofs.reader.read_moves.Statement.{statement}
 use Rattle.schedule.proofs.reader.read_moves.Tie as tie
 
 abbrev Inv-loop : tie.InvT-loop
-Inv-loop shape job paper plan₀ from line at₀ k₀ i₀ plan at k i = MovesRead shape (jobOf job) paper plan₀ plan from line at k i
+Inv-loop shape job paper schedule₀ from line at₀ k₀ i₀ schedule at k i = MovesRead shape (jobOf job) paper schedule₀ schedule from line at k i
 
 abbrev μ-loop : tie.MeasureT-loop
-μ-loop shape job paper plan₀ from line at₀ k₀ i₀ plan at k i = shape .files - i
+μ-loop shape job paper schedule₀ from line at₀ k₀ i₀ schedule at k i = shape .files - i
 
 loop-holds : tie.Need-loop-holds Inv-loop μ-loop
 loop-holds c = moves-start _ _ _ _ _ _ (c .before .pre .1 .0)
@@ -52,7 +52,7 @@ returns c =
     let l = m .before .before .before in
     let s = l .before .before in
     let h = m .before .if1 .taken in
-    let e = moved-so-far (s .pre .0) (planOf (l .loop .plan)) h (m .maker .ensures) (x .before .before .reader .ensures) (x .crosses .ensures) (l .loop .i) in
+    let e = moved-so-far (s .pre .0) (entriesOf (l .loop .schedule)) h (m .maker .ensures) (x .before .before .reader .ensures) (x .crosses .ensures) (l .loop .i) in
     let o = c .before .before .before in
     (moves-refused (l .loop .inv) h (e ∙ o .before .if2 .taken) (m .maker .ensures) (x .before .before .reader .ensures) _ (o .move-at .ensures _) _ (c .before .fault .given .1), tt)
 
@@ -83,7 +83,7 @@ loop-again c =
     let l = m .before .before .before in
     let s = l .before .before in
     let h = m .before .if1 .taken in
-    let e = moved-so-far (s .pre .0) (planOf (l .loop .plan)) h (m .maker .ensures) (x .before .before .reader .ensures) (x .crosses .ensures) (l .loop .i) in
+    let e = moved-so-far (s .pre .0) (entriesOf (l .loop .schedule)) h (m .maker .ensures) (x .before .before .reader .ensures) (x .crosses .ensures) (l .loop .i) in
     let o = c .before .before .before .before .before in
     moves-next (l .loop .inv) h (e ∙ o .before .if2 .taken) (m .maker .ensures) (x .before .before .reader .ensures) _ (o .move-at .ensures _) _ _ (c .before .before .before .start .given .1) (s .pre .0) (c .before .store-arg .given .0 .1) _ (c .store .ensures)
 
@@ -106,7 +106,7 @@ loop-again-2 c =
     let l = m .before .before .before in
     let s = l .before .before in
     let h = m .before .if1 .taken in
-    let e = moved-so-far (s .pre .0) (planOf (l .loop .plan)) h (m .maker .ensures) (x .before .before .reader .ensures) (x .crosses .ensures) (l .loop .i) in
+    let e = moved-so-far (s .pre .0) (entriesOf (l .loop .schedule)) h (m .maker .ensures) (x .before .before .reader .ensures) (x .crosses .ensures) (l .loop .i) in
     let a = c .before in
     moves-skip (l .loop .inv) h (e ∙ a .before .if2 .left) (s .pre .0) (a .store-arg2 .given .0 .1) _ (c .store2 .ensures)
 

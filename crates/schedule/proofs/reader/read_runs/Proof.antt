@@ -7,10 +7,10 @@ use Rattle.schedule.proofs.reader.read_runs.Statement.{statement}
 use Rattle.schedule.proofs.reader.read_runs.Tie as tie
 
 abbrev Inv-loop : tie.InvT-loop
-Inv-loop shape paper plan₀ at₀ i₀ plan at i = RunsRead shape paper plan at i
+Inv-loop shape paper schedule₀ at₀ i₀ schedule at i = RunsRead shape paper schedule at i
 
 abbrev μ-loop : tie.MeasureT-loop
-μ-loop shape paper plan₀ at₀ i₀ plan at i = shape .tasks - i
+μ-loop shape paper schedule₀ at₀ i₀ schedule at i = shape .tasks - i
 
 loop-holds : tie.Need-loop-holds Inv-loop μ-loop
 loop-holds c = runs-start _ _ _

@@ -6,7 +6,7 @@ use borrow.Author.Needs.{needs}
 use denote.Ref.{now}
 use Rattle.rules.specs.ScheduleText.{moveLines}
 use Rattle.rules.proofs.ScheduleTextLaws.{moves-none}
-use Rattle.model.specs.Layout.{jobOf, planOf, instanceFrom, scheduleFrom}
+use Rattle.model.specs.Layout.{jobOf, entriesOf, instanceFrom, scheduleFrom}
 use Rattle.schedule.proofs.CrossingLaws.{moved-in}
 use Rattle.schedule.proofs.PieceLaws.{moves-grow, move-piece, no-piece}
 use Rattle.schedule.proofs.SizeLaws.{Counted, counted-none, counted-next, counted-skip, counted-all}
@@ -14,10 +14,10 @@ use Rattle.schedule.proofs.size.moves_size.Statement.{statement}
 use Rattle.schedule.proofs.size.moves_size.Tie as tie
 
 abbrev Inv-loop : tie.InvT-loop
-Inv-loop shape job plan n₀ k₀ n k = Counted (moveLines (instanceFrom shape (jobOf job)) (scheduleFrom shape (planOf plan))) (shape .files) n k
+Inv-loop shape job schedule n₀ k₀ n k = Counted (moveLines (instanceFrom shape (jobOf job)) (scheduleFrom shape (entriesOf schedule))) (shape .files) n k
 
 abbrev μ-loop : tie.MeasureT-loop
-μ-loop shape job plan n₀ k₀ n k = shape .files - k
+μ-loop shape job schedule n₀ k₀ n k = shape .files - k
 
 loop-holds : tie.Need-loop-holds Inv-loop μ-loop
 loop-holds c = counted-none _ _ (moves-none _ _)
@@ -71,7 +71,7 @@ loop-again c =
     let s = l .before in
     let h = m .before .if1 .taken in
     let J = jobOf (now (s .args .job)) in
-    let L = planOf (now (s .args .plan)) in
+    let L = entriesOf (now (s .args .schedule)) in
     let e = moved-in (s .pre) L h (m .maker .ensures) (x .before .reader .ensures) (x .crosses .ensures) in
     counted-next _ _ (moves-grow _ _) (l .loop .inv) h _ (move-piece (s .args .shape) J L h _ _ _ (m .maker .ensures) (x .before .reader .ensures) (c .before .move-start .ensures) (e ∙ c .before .before .if2 .taken)) _ (c .move-size .ensures .0) (c .move-size .ensures .1)
 
@@ -89,7 +89,7 @@ loop-again-2 c =
     let s = l .before in
     let h = m .before .if1 .taken in
     let J = jobOf (now (s .args .job)) in
-    let L = planOf (now (s .args .plan)) in
+    let L = entriesOf (now (s .args .schedule)) in
     let e = moved-in (s .pre) L h (m .maker .ensures) (x .before .reader .ensures) (x .crosses .ensures) in
     counted-skip _ _ (moves-grow _ _) (l .loop .inv) h (no-piece (s .args .shape) J L h (e ∙ c .if2 .left))
 

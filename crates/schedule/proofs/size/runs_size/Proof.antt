@@ -5,17 +5,17 @@ use borrow.Author.Needs.{needs}
 use denote.Ref.{now}
 use Rattle.rules.specs.ScheduleText.{runLines}
 use Rattle.rules.proofs.ScheduleTextLaws.{runs-none}
-use Rattle.model.specs.Layout.{planOf, scheduleFrom}
+use Rattle.model.specs.Layout.{entriesOf, scheduleFrom}
 use Rattle.schedule.proofs.PieceLaws.{runs-grow, run-piece}
 use Rattle.schedule.proofs.SizeLaws.{Counted, counted-none, counted-next, counted-all}
 use Rattle.schedule.proofs.size.runs_size.Statement.{statement}
 use Rattle.schedule.proofs.size.runs_size.Tie as tie
 
 abbrev Inv-loop : tie.InvT-loop
-Inv-loop shape plan n₀ i₀ n i = Counted (runLines (scheduleFrom shape (planOf plan))) (shape .tasks) n i
+Inv-loop shape schedule n₀ i₀ n i = Counted (runLines (scheduleFrom shape (entriesOf schedule))) (shape .tasks) n i
 
 abbrev μ-loop : tie.MeasureT-loop
-μ-loop shape plan n₀ i₀ n i = shape .tasks - i
+μ-loop shape schedule n₀ i₀ n i = shape .tasks - i
 
 loop-holds : tie.Need-loop-holds Inv-loop μ-loop
 loop-holds c = counted-none _ _ (runs-none _)
@@ -46,7 +46,7 @@ loop-again c =
     let l = c .before .before .before .before .before in
     let s = l .before in
     let h = c .before .before .before .if1 .taken in
-    counted-next _ _ (runs-grow _) (l .loop .inv) h _ (run-piece (s .args .shape) (planOf (now (s .args .plan))) h _ _ (c .before .before .processor .ensures) (c .before .start .ensures)) _ (c .run-size .ensures .0) (c .run-size .ensures .1)
+    counted-next _ _ (runs-grow _) (l .loop .inv) h _ (run-piece (s .args .shape) (entriesOf (now (s .args .schedule))) h _ _ (c .before .before .processor .ensures) (c .before .start .ensures)) _ (c .run-size .ensures .0) (c .run-size .ensures .1)
 
 returns : tie.Need-returns Inv-loop μ-loop
 returns c =

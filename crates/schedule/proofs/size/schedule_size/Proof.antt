@@ -1,7 +1,7 @@
 -- `schedule::size::schedule_size` meets its contract: the runs, the moves and the claim.
 use borrow.Author.Needs.{needs}
 use denote.Ref.{now}
-use Rattle.model.specs.Layout.{jobOf, planOf}
+use Rattle.model.specs.Layout.{jobOf, entriesOf}
 use Rattle.model.specs.Claims.{asClaim}
 use Rattle.schedule.proofs.PieceLaws.{text-length}
 use Rattle.schedule.proofs.size.schedule_size.Statement.{statement}
@@ -25,7 +25,7 @@ add-result-2 c = search needs
 returns : tie.Need-returns
 returns c =
     let s = c .before .before .before in
-    text-length (s .args .shape) (jobOf (now (s .args .job))) (planOf (now (s .args .plan))) (asClaim (s .args .claim)) _ _ _ (c .before .before .runs-size .ensures .0) (c .before .moves-size .ensures .0) (c .claim-size .ensures .0)
+    text-length (s .args .shape) (jobOf (now (s .args .job))) (entriesOf (now (s .args .schedule))) (asClaim (s .args .claim)) _ _ _ (c .before .before .runs-size .ensures .0) (c .before .moves-size .ensures .0) (c .claim-size .ensures .0)
 
 pub schedule-size-spec : {M : Type 1} → statement M
 schedule-size-spec =

@@ -6,7 +6,7 @@ use borrow.Author.Needs.{needs}
 use denote.Ref.{now}
 use Rattle.rules.specs.ScheduleText.{moveLines}
 use Rattle.rules.proofs.ScheduleTextLaws.{moves-none}
-use Rattle.model.specs.Layout.{jobOf, planOf, instanceFrom, scheduleFrom}
+use Rattle.model.specs.Layout.{jobOf, entriesOf, instanceFrom, scheduleFrom}
 use Rattle.schedule.proofs.CrossingLaws.{moved-in}
 use Rattle.schedule.proofs.PieceLaws.{moves-grow, move-piece, no-piece}
 use Rattle.schedule.proofs.LaidLaws.{Laid, laid-none, laid-within, laid-length, laid-room, laid-next, laid-skip, laid-all}
@@ -14,10 +14,10 @@ use Rattle.schedule.proofs.writer.write_moves.Statement.{statement}
 use Rattle.schedule.proofs.writer.write_moves.Tie as tie
 
 abbrev Inv-loop : tie.InvT-loop
-Inv-loop shape job plan out₀ at₀ k₀ out at k = Laid (moveLines (instanceFrom shape (jobOf job)) (scheduleFrom shape (planOf plan))) (shape .files) out₀ out at k
+Inv-loop shape job schedule out₀ at₀ k₀ out at k = Laid (moveLines (instanceFrom shape (jobOf job)) (scheduleFrom shape (entriesOf schedule))) (shape .files) out₀ out at k
 
 abbrev μ-loop : tie.MeasureT-loop
-μ-loop shape job plan out₀ at₀ k₀ out at k = shape .files - k
+μ-loop shape job schedule out₀ at₀ k₀ out at k = shape .files - k
 
 loop-holds : tie.Need-loop-holds Inv-loop μ-loop
 loop-holds c = laid-none _ _ _ (moves-none _ _) (c .before .pre .1)
@@ -70,7 +70,7 @@ write-move-requires c κs =
     let s = l .before .before in
     let h = m .before .if1 .taken in
     let J = jobOf (now (s .args .job)) in
-    let L = planOf (now (s .args .plan)) in
+    let L = entriesOf (now (s .args .schedule)) in
     let e = moved-in (s .pre .0) L h (m .maker .ensures) (x .before .reader .ensures) (x .crosses .ensures) in
     let t = c .before in
     laid-room _ _ (moves-grow _ _) (l .loop .inv) h _ (move-piece (s .args .shape) J L h _ _ _ (m .maker .ensures) (x .before .reader .ensures) (t .move-start .ensures) (e ∙ t .before .if2 .taken))
@@ -89,7 +89,7 @@ loop-again c =
     let s = l .before .before in
     let h = m .before .if1 .taken in
     let J = jobOf (now (s .args .job)) in
-    let L = planOf (now (s .args .plan)) in
+    let L = entriesOf (now (s .args .schedule)) in
     let e = moved-in (s .pre .0) L h (m .maker .ensures) (x .before .reader .ensures) (x .crosses .ensures) in
     let w = c .before .before in
     let t = w .before .before in
@@ -114,7 +114,7 @@ loop-again-2 c =
     let s = l .before .before in
     let h = m .before .if1 .taken in
     let J = jobOf (now (s .args .job)) in
-    let L = planOf (now (s .args .plan)) in
+    let L = entriesOf (now (s .args .schedule)) in
     let e = moved-in (s .pre .0) L h (m .maker .ensures) (x .before .reader .ensures) (x .crosses .ensures) in
     laid-skip _ _ (moves-grow _ _) (l .loop .inv) h (no-piece (s .args .shape) J L h (e ∙ c .if2 .left))
 

@@ -5,17 +5,17 @@ use borrow.Author.Needs.{needs}
 use denote.Ref.{now}
 use Rattle.rules.specs.ScheduleText.{runLines}
 use Rattle.rules.proofs.ScheduleTextLaws.{runs-none}
-use Rattle.model.specs.Layout.{planOf, scheduleFrom}
+use Rattle.model.specs.Layout.{entriesOf, scheduleFrom}
 use Rattle.schedule.proofs.PieceLaws.{runs-grow, run-piece}
 use Rattle.schedule.proofs.LaidLaws.{Laid, laid-none, laid-within, laid-length, laid-room, laid-next, laid-all}
 use Rattle.schedule.proofs.writer.write_runs.Statement.{statement}
 use Rattle.schedule.proofs.writer.write_runs.Tie as tie
 
 abbrev Inv-loop : tie.InvT-loop
-Inv-loop shape plan out₀ at₀ i₀ out at i = Laid (runLines (scheduleFrom shape (planOf plan))) (shape .tasks) out₀ out at i
+Inv-loop shape schedule out₀ at₀ i₀ out at i = Laid (runLines (scheduleFrom shape (entriesOf schedule))) (shape .tasks) out₀ out at i
 
 abbrev μ-loop : tie.MeasureT-loop
-μ-loop shape plan out₀ at₀ i₀ out at i = shape .tasks - i
+μ-loop shape schedule out₀ at₀ i₀ out at i = shape .tasks - i
 
 loop-holds : tie.Need-loop-holds Inv-loop μ-loop
 loop-holds c = laid-none _ _ _ (runs-none _) (c .before .pre .1)
@@ -43,7 +43,7 @@ write-run-requires c κs =
     let l = c .before .before .before .before .before in
     let s = l .before .before in
     let h = c .before .before .before .if1 .taken in
-    laid-room _ _ (runs-grow _) (l .loop .inv) h _ (run-piece (s .args .shape) (planOf (now (s .args .plan))) h _ _ (c .before .before .processor .ensures) (c .before .start .ensures))
+    laid-room _ _ (runs-grow _) (l .loop .inv) h _ (run-piece (s .args .shape) (entriesOf (now (s .args .schedule))) h _ _ (c .before .before .processor .ensures) (c .before .start .ensures))
 
 add-i : tie.Need-add-i Inv-loop μ-loop
 add-i c = search needs
@@ -58,7 +58,7 @@ loop-again c =
     let l = t .before .before .before .before in
     let s = l .before .before in
     let h = t .before .before .if1 .taken in
-    laid-next _ _ (runs-grow _) (l .loop .inv) h _ (run-piece (s .args .shape) (planOf (now (s .args .plan))) h _ _ (t .before .processor .ensures) (t .start .ensures)) _ _ (w .write-run .ensures)
+    laid-next _ _ (runs-grow _) (l .loop .inv) h _ (run-piece (s .args .shape) (entriesOf (now (s .args .schedule))) h _ _ (t .before .processor .ensures) (t .start .ensures)) _ _ (w .write-run .ensures)
 
 add-at : tie.Need-add-at Inv-loop μ-loop
 add-at c =

@@ -5,7 +5,7 @@ use mathlib.Core.Path.{_≡_}
 use native.Mathlib.Omega.{arith}
 use Rattle.rules.specs.Count.{anyBelow}
 use Rattle.rules.specs.Scheduling.{missing}
-use Rattle.model.specs.Layout.{jobOf, planOf, instanceFrom, scheduleFrom}
+use Rattle.model.specs.Layout.{jobOf, entriesOf, instanceFrom, scheduleFrom}
 use Rattle.model.proofs.StepLaws.{any-empty, any-next}
 use Rattle.selection.proofs.ReadinessLaws.{ready-placed, ready-missing, ready-found}
 use borrow.Author.Needs.{needs}
@@ -13,11 +13,11 @@ use Rattle.selection.proofs.readiness.ready.Statement.{statement}
 use Rattle.selection.proofs.readiness.ready.Tie as tie
 
 abbrev Inv-loop : tie.InvT-loop
-Inv-loop shape job plan task i₀ i =
-    (i ≤ shape .files) × (anyBelow i (missing (instanceFrom shape (jobOf job)) (scheduleFrom shape (planOf plan)) task) ≡ false)
+Inv-loop shape job schedule task i₀ i =
+    (i ≤ shape .files) × (anyBelow i (missing (instanceFrom shape (jobOf job)) (scheduleFrom shape (entriesOf schedule)) task) ≡ false)
 
 abbrev μ-loop : tie.MeasureT-loop
-μ-loop shape job plan task i₀ i = shape .files - i
+μ-loop shape job schedule task i₀ i = shape .files - i
 
 placed-requires : tie.Need-placed-requires Inv-loop μ-loop
 placed-requires c κs = omega (arith, c .pre .0 .job .tasks)
@@ -43,7 +43,7 @@ loop-less c = search needs
 loop-again : tie.Need-loop-again Inv-loop μ-loop
 loop-again c =
     let a = c .before .before .before .before .before .before .before .args in
-    (omega arith, any-next (missing (instanceFrom (a .shape) (jobOf (a .job .now))) (scheduleFrom (a .shape) (planOf (a .plan .now))) (a .task)) (c .before .before .before .before .loop .i) (c .before .before .before .before .loop .inv .1) (c .before .missing .ensures) (c .if3 .left))
+    (omega arith, any-next (missing (instanceFrom (a .shape) (jobOf (a .job .now))) (scheduleFrom (a .shape) (entriesOf (a .schedule .now))) (a .task)) (c .before .before .before .before .loop .i) (c .before .before .before .before .loop .inv .1) (c .before .missing .ensures) (c .if3 .left))
 
 returns-3 : tie.Need-returns-3 Inv-loop μ-loop
 returns-3 c = let s = c .before .before .before .before .before in ready-found (s .pre .0) (s .args .task) (s .pre .1) (c .before .before .before .before .placed .ensures) (c .before .before .before .if1 .left) {n = c .before .before .loop .i} (omega arith) (c .before .before .loop .inv .1)

@@ -1,5 +1,5 @@
 -- `both_colours` meets its contract.
-use Rattle.model.specs.Layout.{jobOf, planOf, instanceFrom, partialFrom}
+use Rattle.model.specs.Layout.{jobOf, entriesOf, instanceFrom, partialFrom}
 use Rattle.selection.proofs.ChoiceLaws.{both-at}
 use borrow.Author.Needs.{needs}
 use Rattle.selection.proofs.trial.both_colours.Statement.{statement}
@@ -23,7 +23,7 @@ earlier-requires c κs = let s = c .before .before .before .before in (s .pre .0
 returns : tie.Need-returns
 returns c =
     let a = c .before .before .before .before .before .args in (
-      both-at (instanceFrom (a .shape) (jobOf (a .job .now))) (partialFrom (a .shape) (planOf (a .plan .now)) (a .last .now)) (a .task) (c .before .before .before .before .earliest-start .result) (c .before .before .before .earliest-start2 .result) (c .before .before .tried .result) (c .before .tried2 .result) (c .earlier .result)
+      both-at (instanceFrom (a .shape) (jobOf (a .job .now))) (partialFrom (a .shape) (entriesOf (a .schedule .now)) (a .last .now)) (a .task) (c .before .before .before .before .earliest-start .result) (c .before .before .before .earliest-start2 .result) (c .before .before .tried .result) (c .before .tried2 .result) (c .earlier .result)
           (c .before .before .before .before .earliest-start .ensures .0) (c .before .before .before .earliest-start2 .ensures .0) (c .before .before .tried .ensures .0) (c .before .tried2 .ensures .0) (c .earlier .ensures .0),
       c .earlier .ensures .1,
     )

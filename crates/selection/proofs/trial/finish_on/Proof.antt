@@ -15,7 +15,7 @@ returns : tie.Need-returns
 returns c =
     let s = c .before in
     let a = s .args in (
-      finish-on-at (a .shape) (jobOf (a .job .now)) (s .pre .1 .0) (a .blue) (a .start) (c .run-time .ensures .0),
+      finish-on-at (a .shape) (jobOf (a .job .now)) (s .pre .1 .0) (a .colour) (a .start) (c .run-time .ensures .0),
       omega (arith, s .pre .0 .onBlue (a .task) (s .pre .1 .0), s .pre .0 .onRed (a .task) (s .pre .1 .0), c .run-time .ensures .1),
     )
 

@@ -17,8 +17,8 @@ crossing-file-requires c κs = search needs
 move-time-requires : tie.Need-move-time-requires
 move-time-requires c κs = search needs
 
-when-requires : tie.Need-when-requires
-when-requires c κs = search needs
+value-if-requires : tie.Need-value-if-requires
+value-if-requires c κs = search needs
 
 add-result : tie.Need-add-result
 add-result c = let s = c .before .before .before .before .before in omega (arith, s .pre .0 .job .moveTime (s .args .k) (s .pre .1))
@@ -26,7 +26,7 @@ add-result c = let s = c .before .before .before .before .before in omega (arith
 returns : tie.Need-returns
 returns c =
     let s = c .before .before .before .before .before in (
-      arrival-at (s .pre .0) (s .pre .1) (s .args .task) (s .args .colour) (c .before .before .before .before .maker .ensures) (c .before .before .before .finish .ensures .0) (c .before .before .crossing-file .ensures) (c .before .move-time .ensures) (c .when .ensures .0),
+      arrival-at (s .pre .0) (s .pre .1) (s .args .task) (s .args .colour) (c .before .before .before .before .maker .ensures) (c .before .before .before .finish .ensures .0) (c .before .before .crossing-file .ensures) (c .before .move-time .ensures) (c .value-if .ensures .0),
       omega (arith, s .pre .0 .job .moveTime (s .args .k) (s .pre .1)),
     )
 
@@ -38,6 +38,6 @@ arrival-spec =
     finish-requires
     crossing-file-requires
     move-time-requires
-    when-requires
+    value-if-requires
     add-result
     returns)

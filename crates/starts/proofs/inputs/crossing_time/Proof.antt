@@ -6,7 +6,7 @@ use Rattle.rules.specs.Count.{maxWhere}
 use Rattle.rules.specs.Limits.{moveTimes}
 use Rattle.rules.specs.Model.{moveTimeAt}
 use Rattle.rules.specs.Scheduling.{crossing}
-use Rattle.model.specs.Layout.{jobOf, planOf, instanceFrom, scheduleFrom, colourBy}
+use Rattle.model.specs.Layout.{jobOf, entriesOf, instanceFrom, scheduleFrom, colourBy}
 use Rattle.model.proofs.StepLaws.{max-none}
 use Rattle.starts.proofs.InputLoops.{time-turn, time-total}
 use borrow.Author.Needs.{needs}
@@ -14,12 +14,12 @@ use Rattle.starts.proofs.inputs.crossing_time.Statement.{statement}
 use Rattle.starts.proofs.inputs.crossing_time.Tie as tie
 
 abbrev Inv-loop : tie.InvT-loop
-Inv-loop shape job plan task colour most₀ i₀ most i =
+Inv-loop shape job schedule task colour most₀ i₀ most i =
     (i ≤ shape .files) × (most ≤ moveTimes .most)
-    × (most ≡ maxWhere i (crossing (instanceFrom shape (jobOf job)) (scheduleFrom shape (planOf plan)) task (colourBy colour)) (moveTimeAt (instanceFrom shape (jobOf job))))
+    × (most ≡ maxWhere i (crossing (instanceFrom shape (jobOf job)) (scheduleFrom shape (entriesOf schedule)) task (colourBy colour)) (moveTimeAt (instanceFrom shape (jobOf job))))
 
 abbrev μ-loop : tie.MeasureT-loop
-μ-loop shape job plan task colour most₀ i₀ most i = shape .files - i
+μ-loop shape job schedule task colour most₀ i₀ most i = shape .files - i
 
 loop-holds : tie.Need-loop-holds Inv-loop μ-loop
 loop-holds c = (omega arith, omega arith, sym (max-none _))
@@ -30,8 +30,8 @@ crossing-file-requires c κs = search needs
 move-time-requires : tie.Need-move-time-requires Inv-loop μ-loop
 move-time-requires c κs = search needs
 
-when-requires : tie.Need-when-requires Inv-loop μ-loop
-when-requires c κs = search needs
+value-if-requires : tie.Need-value-if-requires Inv-loop μ-loop
+value-if-requires c κs = search needs
 
 greater-requires : tie.Need-greater-requires Inv-loop μ-loop
 greater-requires c κs = search needs
@@ -47,13 +47,13 @@ loop-again c =
     let s = c .before .before .before .before .before .before .before in
     let a = s .args in
     let h = c .before .before .before .before .if1 .taken in
-    omega (arith, s .pre .job .moveTime (c .before .before .before .before .before .before .loop .i) h, time-turn (a .shape) (jobOf (a .job .now)) (a .task) (planOf (a .plan .now)) (colourBy (a .colour)) h (c .before .before .before .crossing-file .ensures) (c .before .before .move-time .ensures) (c .before .when .ensures .0))
+    omega (arith, s .pre .job .moveTime (c .before .before .before .before .before .before .loop .i) h, time-turn (a .shape) (jobOf (a .job .now)) (a .task) (entriesOf (a .schedule .now)) (colourBy (a .colour)) h (c .before .before .before .crossing-file .ensures) (c .before .before .move-time .ensures) (c .before .value-if .ensures .0))
 
 returns : tie.Need-returns Inv-loop μ-loop
 returns c =
     let s = c .before .before .before in
     let a = s .args in
-    omega (arith, time-total (a .shape) (jobOf (a .job .now)) (a .task) (planOf (a .plan .now)) (colourBy (a .colour)) {n = c .before .before .loop .i} (omega arith))
+    omega (arith, time-total (a .shape) (jobOf (a .job .now)) (a .task) (entriesOf (a .schedule .now)) (colourBy (a .colour)) {n = c .before .before .loop .i} (omega arith))
 
 pub crossing-time-spec : {M : Type 1} → statement M
 crossing-time-spec =
@@ -64,7 +64,7 @@ crossing-time-spec =
     loop-holds
     crossing-file-requires
     move-time-requires
-    when-requires
+    value-if-requires
     greater-requires
     add-i
     loop-less

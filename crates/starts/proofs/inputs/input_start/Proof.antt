@@ -4,7 +4,7 @@ use mathlib.Core.Path.{_≡_, sym}
 use native.Mathlib.Omega.{arith}
 use Rattle.rules.specs.Count.{maxWhere}
 use Rattle.rules.specs.Scheduling.{reads, arrival}
-use Rattle.model.specs.Layout.{jobOf, planOf, instanceFrom, scheduleFrom, colourBy, lastStart}
+use Rattle.model.specs.Layout.{jobOf, entriesOf, instanceFrom, scheduleFrom, colourBy, lastStart}
 use Rattle.model.proofs.StepLaws.{max-none}
 use Rattle.starts.proofs.InputLoops.{input-turn, input-total}
 use borrow.Author.Needs.{needs}
@@ -12,12 +12,12 @@ use Rattle.starts.proofs.inputs.input_start.Statement.{statement}
 use Rattle.starts.proofs.inputs.input_start.Tie as tie
 
 abbrev Inv-loop : tie.InvT-loop
-Inv-loop shape job plan task colour most₀ i₀ most i =
+Inv-loop shape job schedule task colour most₀ i₀ most i =
     (i ≤ shape .files) × (most ≤ lastStart)
-    × (most ≡ maxWhere i (reads (instanceFrom shape (jobOf job)) task) (arrival (instanceFrom shape (jobOf job)) (scheduleFrom shape (planOf plan)) task (colourBy colour)))
+    × (most ≡ maxWhere i (reads (instanceFrom shape (jobOf job)) task) (arrival (instanceFrom shape (jobOf job)) (scheduleFrom shape (entriesOf schedule)) task (colourBy colour)))
 
 abbrev μ-loop : tie.MeasureT-loop
-μ-loop shape job plan task colour most₀ i₀ most i = shape .files - i
+μ-loop shape job schedule task colour most₀ i₀ most i = shape .files - i
 
 loop-holds : tie.Need-loop-holds Inv-loop μ-loop
 loop-holds c = (omega arith, omega arith, sym (max-none _))
@@ -28,8 +28,8 @@ arrival-requires c κs = search needs
 reader-requires : tie.Need-reader-requires Inv-loop μ-loop
 reader-requires c κs = search needs
 
-when-requires : tie.Need-when-requires Inv-loop μ-loop
-when-requires c κs = search needs
+value-if-requires : tie.Need-value-if-requires Inv-loop μ-loop
+value-if-requires c κs = search needs
 
 greater-requires : tie.Need-greater-requires Inv-loop μ-loop
 greater-requires c κs = search needs
@@ -44,12 +44,12 @@ loop-again : tie.Need-loop-again Inv-loop μ-loop
 loop-again c =
     let a = c .before .before .before .before .before .before .before .args in
     let h = c .before .before .before .before .if1 .taken in
-    omega (arith, input-turn (a .shape) (jobOf (a .job .now)) (a .task) (planOf (a .plan .now)) (colourBy (a .colour)) h (c .before .before .before .arrival .ensures .0) (c .before .before .reader .ensures) (c .before .when .ensures .0))
+    omega (arith, input-turn (a .shape) (jobOf (a .job .now)) (a .task) (entriesOf (a .schedule .now)) (colourBy (a .colour)) h (c .before .before .before .arrival .ensures .0) (c .before .before .reader .ensures) (c .before .value-if .ensures .0))
 
 returns : tie.Need-returns Inv-loop μ-loop
 returns c =
     let a = c .before .before .before .args in
-    omega (arith, input-total (a .shape) (jobOf (a .job .now)) (a .task) (planOf (a .plan .now)) (colourBy (a .colour)) {n = c .before .before .loop .i} (omega arith))
+    omega (arith, input-total (a .shape) (jobOf (a .job .now)) (a .task) (entriesOf (a .schedule .now)) (colourBy (a .colour)) {n = c .before .before .loop .i} (omega arith))
 
 pub input-start-spec : {M : Type 1} → statement M
 input-start-spec =
@@ -60,7 +60,7 @@ input-start-spec =
     loop-holds
     arrival-requires
     reader-requires
-    when-requires
+    value-if-requires
     greater-requires
     add-i
     loop-less

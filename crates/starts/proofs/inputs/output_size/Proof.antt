@@ -30,8 +30,8 @@ maker-requires c κs = search needs
 size-requires : tie.Need-size-requires Inv-loop μ-loop
 size-requires c κs = search needs
 
-when-requires : tie.Need-when-requires Inv-loop μ-loop
-when-requires c κs = search needs
+value-if-requires : tie.Need-value-if-requires Inv-loop μ-loop
+value-if-requires c κs = search needs
 
 add-sum : tie.Need-add-sum Inv-loop μ-loop
 add-sum c = let s = c .before .before .before .before .before .before in omega (arith, s .pre .size (c .before .before .before .before .before .loop .i) (c .before .before .before .if1 .taken))
@@ -47,7 +47,7 @@ loop-again c =
     let s = c .before .before .before .before .before .before in
     let a = s .args in
     let h = c .before .before .before .if1 .taken in
-    omega (arith, s .pre .size (c .before .before .before .before .before .loop .i) h, output-turn (a .shape) (jobOf (a .job .now)) (a .task) h (c .before .before .maker .ensures) (c .before .size .ensures) (c .when .ensures .0))
+    omega (arith, s .pre .size (c .before .before .before .before .before .loop .i) h, output-turn (a .shape) (jobOf (a .job .now)) (a .task) h (c .before .before .maker .ensures) (c .before .size .ensures) (c .value-if .ensures .0))
 
 returns : tie.Need-returns Inv-loop μ-loop
 returns c =
@@ -64,7 +64,7 @@ output-size-spec =
     loop-holds
     maker-requires
     size-requires
-    when-requires
+    value-if-requires
     add-sum
     add-i
     loop-less

@@ -3,7 +3,7 @@ use Prim.Native.Nat.{_≤_, _-_}
 use mathlib.Core.Path.{_≡_, sym}
 use native.Mathlib.Omega.{arith}
 use Rattle.rules.specs.Count.{maxBelow}
-use Rattle.model.specs.Layout.{jobOf, planOf, instanceFrom, scheduleFrom, colourBy, lastTick}
+use Rattle.model.specs.Layout.{jobOf, entriesOf, instanceFrom, scheduleFrom, colourBy, lastTick}
 use Rattle.model.proofs.StepLaws.{max-none, max-next}
 use Rattle.starts.specs.FreeMemory.{lateEnd}
 use Rattle.starts.proofs.FreeLaws.{late-total}
@@ -12,12 +12,12 @@ use Rattle.starts.proofs.memory.last_late.Statement.{statement}
 use Rattle.starts.proofs.memory.last_late.Tie as tie
 
 abbrev Inv-loop : tie.InvT-loop
-Inv-loop shape job plan colour need most₀ i₀ most i =
+Inv-loop shape job schedule colour need most₀ i₀ most i =
     (i ≤ shape .files) × (most ≤ lastTick)
-    × (most ≡ maxBelow i (lateEnd (instanceFrom shape (jobOf job)) (scheduleFrom shape (planOf plan)) (colourBy colour) need))
+    × (most ≡ maxBelow i (lateEnd (instanceFrom shape (jobOf job)) (scheduleFrom shape (entriesOf schedule)) (colourBy colour) need))
 
 abbrev μ-loop : tie.MeasureT-loop
-μ-loop shape job plan colour need most₀ i₀ most i = shape .files - i
+μ-loop shape job schedule colour need most₀ i₀ most i = shape .files - i
 
 loop-holds : tie.Need-loop-holds Inv-loop μ-loop
 loop-holds c = (omega arith, omega arith, sym (max-none _))
@@ -37,10 +37,10 @@ loop-less c = search needs
 loop-again : tie.Need-loop-again Inv-loop μ-loop
 loop-again c =
     let a = c .before .before .before .before .before .args in
-    omega (arith, max-next (lateEnd (instanceFrom (a .shape) (jobOf (a .job .now))) (scheduleFrom (a .shape) (planOf (a .plan .now))) (colourBy (a .colour)) (a .need)) (c .before .before .before .before .loop .i))
+    omega (arith, max-next (lateEnd (instanceFrom (a .shape) (jobOf (a .job .now))) (scheduleFrom (a .shape) (entriesOf (a .schedule .now))) (colourBy (a .colour)) (a .need)) (c .before .before .before .before .loop .i))
 
 returns : tie.Need-returns Inv-loop μ-loop
-returns c = let a = c .before .before .before .args in omega (arith, late-total (a .shape) (jobOf (a .job .now)) (planOf (a .plan .now)) (a .need) (colourBy (a .colour)) {n = c .before .before .loop .i} (omega arith))
+returns c = let a = c .before .before .before .args in omega (arith, late-total (a .shape) (jobOf (a .job .now)) (entriesOf (a .schedule .now)) (a .need) (colourBy (a .colour)) {n = c .before .before .loop .i} (omega arith))
 
 pub last-late-spec : {M : Type 1} → statement M
 last-late-spec =

@@ -1,6 +1,6 @@
 -- `earliest_start` meets its contract.
 use native.Mathlib.Omega.{arith}
-use Rattle.model.specs.Layout.{jobOf, planOf}
+use Rattle.model.specs.Layout.{jobOf, entriesOf}
 use Rattle.starts.proofs.StartCases.{earliest-at}
 use borrow.Author.Needs.{needs}
 use Rattle.starts.proofs.start.earliest_start.Statement.{statement}
@@ -39,7 +39,7 @@ latest-requires c κs = search needs
 returns : tie.Need-returns
 returns c =
     let a = c .before .before .before .before .before .before .before .before .before .args in (
-      earliest-at (a .shape) (jobOf (a .job .now)) (planOf (a .plan .now)) (a .last .now) (a .task) (a .colour) (c .before .before .before .free-from .result) (c .before .before .free-from2 .result) (c .latest .result)
+      earliest-at (a .shape) (jobOf (a .job .now)) (entriesOf (a .schedule .now)) (a .last .now) (a .task) (a .colour) (c .before .before .before .free-from .result) (c .before .before .free-from2 .result) (c .latest .result)
           (c .before .before .before .before .before .before .processor-start .ensures .0 _ _) (c .before .before .before .before .before .input-start .ensures .0) (c .before .before .before .before .greater .ensures) (c .before .before .before .before .before .before .before .before .crossing-size .ensures .0) (c .before .before .before .before .before .before .before .output-size .ensures .0) (c .before .crossing-time .ensures .0)
           (c .before .before .before .free-from .ensures .0) (c .before .before .free-from2 .ensures .0) (c .latest .ensures .0),
       omega arith,

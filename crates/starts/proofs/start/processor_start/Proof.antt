@@ -17,11 +17,11 @@ Inv-loop last colour blue first count at least₀ i₀ least i =
 abbrev μ-loop : tie.MeasureT-loop
 μ-loop last colour blue first count at least₀ i₀ least i = count - i
 
-either-requires : tie.Need-either-requires Inv-loop μ-loop
-either-requires c κs = search needs
+select-requires : tie.Need-select-requires Inv-loop μ-loop
+select-requires c κs = search needs
 
-either-requires-2 : tie.Need-either-requires-2 Inv-loop μ-loop
-either-requires-2 c κs = search needs
+select-requires-2 : tie.Need-select-requires-2 Inv-loop μ-loop
+select-requires-2 c κs = search needs
 
 mul-least : tie.Need-mul-least Inv-loop μ-loop
 mul-least c = search needs
@@ -32,7 +32,7 @@ element-copy-out-least c = search needs
 loop-holds : tie.Need-loop-holds Inv-loop μ-loop
 loop-holds c =
     let s = c .before .before .before in
-    (omega arith, omega arith, omega (arith, s .pre .1 (c .before .before .either .result) (omega arith)), least-first (s .args .last .now) (c .before .before .either .result))
+    (omega arith, omega arith, omega (arith, s .pre .1 (c .before .before .select .result) (omega arith)), least-first (s .args .last .now) (c .before .before .select .result))
 
 add-at : tie.Need-add-at Inv-loop μ-loop
 add-at c = omega arith
@@ -55,13 +55,13 @@ loop-less c = search needs
 loop-again : tie.Need-loop-again Inv-loop μ-loop
 loop-again c =
     let s = c .before .before .before .before .before .before .before in
-    omega (arith, least-turn (s .args .last .now) (c .before .before .before .before .before .before .either .result) (c .before .before .before .loop .i) (omega arith))
+    omega (arith, least-turn (s .args .last .now) (c .before .before .before .before .before .before .select .result) (c .before .before .before .loop .i) (omega arith))
 
 returns : tie.Need-returns Inv-loop μ-loop
 returns c =
     let s = c .before .before .before .before .before in
     let a = s .args in
-    (λ J L. c .before .loop .inv .3 ∙ least-total (a .shape) J L (a .last .now) (s .pre .0) (a .colour) {i = c .before .loop .i} (c .before .before .before .before .either .ensures .0) (c .before .before .before .either2 .ensures .0) (omega arith), omega arith)
+    (λ J L. c .before .loop .inv .3 ∙ least-total (a .shape) J L (a .last .now) (s .pre .0) (a .colour) {i = c .before .loop .i} (c .before .before .before .before .select .ensures .0) (c .before .before .before .select2 .ensures .0) (omega arith), omega arith)
 
 pub processor-start-spec : {M : Type 1} → statement M
 processor-start-spec =
@@ -69,8 +69,8 @@ processor-start-spec =
     (tie.spec
     Inv-loop
     μ-loop
-    either-requires
-    either-requires-2
+    select-requires
+    select-requires-2
     mul-least
     element-copy-out-least
     loop-holds

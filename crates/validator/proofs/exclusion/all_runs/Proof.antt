@@ -4,7 +4,7 @@ use mathlib.Core.Path.{_≡_}
 use native.Mathlib.Omega.{arith}
 use lib.ListN.{length}
 use Rattle.rules.specs.Limits.{maxTasks}
-use Rattle.model.specs.Layout.{jobOf, planOf, instanceFrom, scheduleFrom}
+use Rattle.model.specs.Layout.{jobOf, entriesOf, instanceFrom, scheduleFrom}
 use Rattle.validator.specs.Records.{Records}
 use Rattle.validator.proofs.Loops.{records-next}
 use borrow.Author.Needs.{needs}
@@ -12,11 +12,11 @@ use Rattle.validator.proofs.exclusion.all_runs.Statement.{statement}
 use Rattle.validator.proofs.exclusion.all_runs.Tie as tie
 
 abbrev Inv-loop : tie.InvT-loop
-Inv-loop shape job plan all₀ i₀ all i =
-    (i ≤ shape .tasks) × (length all ≡ maxTasks) × Records (instanceFrom shape (jobOf job)) (scheduleFrom shape (planOf plan)) i all
+Inv-loop shape job schedule all₀ i₀ all i =
+    (i ≤ shape .tasks) × (length all ≡ maxTasks) × Records (instanceFrom shape (jobOf job)) (scheduleFrom shape (entriesOf schedule)) i all
 
 abbrev μ-loop : tie.MeasureT-loop
-μ-loop shape job plan all₀ i₀ all i = shape .tasks - i
+μ-loop shape job schedule all₀ i₀ all i = shape .tasks - i
 
 loop-holds : tie.Need-loop-holds Inv-loop μ-loop
 loop-holds c = (omega arith, search needs, λ i m. absurd (omega arith))

@@ -1,5 +1,5 @@
 -- `judge` meets its contract.
-use Rattle.model.specs.Layout.{jobOf, planOf, instanceFrom, scheduleFrom}
+use Rattle.model.specs.Layout.{jobOf, entriesOf, instanceFrom, scheduleFrom}
 use Rattle.model.proofs.LayoutLaws.{task-count}
 use Rattle.model.specs.Claims.{asClaim}
 use Rattle.validator.proofs.JudgeSteps.{judge-15, judge-on}
@@ -19,7 +19,7 @@ refused-requires c κs = search needs
 returns : tie.Need-returns
 returns c = let s = c .before .before .before .before in
     let I = instanceFrom (s .args .shape) (jobOf (s .args .job .now)) in
-    let P = scheduleFrom (s .args .shape) (planOf (s .args .plan .now)) in
+    let P = scheduleFrom (s .args .shape) (entriesOf (s .args .schedule .now)) in
     judge-15 I P (asClaim (s .args .claim)) (c .before .before .before .first-overlapping .ensures) (task-count (s .args .shape) (jobOf (s .args .job .now))) (c .refused .ensures) (c .before .if1 .taken)
 
 judge-timing-requires : tie.Need-judge-timing-requires
@@ -28,7 +28,7 @@ judge-timing-requires c κs = search needs
 returns-2 : tie.Need-returns-2
 returns-2 c = let s = c .before .before .before .before in
     let I = instanceFrom (s .args .shape) (jobOf (s .args .job .now)) in
-    let P = scheduleFrom (s .args .shape) (planOf (s .args .plan .now)) in
+    let P = scheduleFrom (s .args .shape) (entriesOf (s .args .schedule .now)) in
     judge-on I P (asClaim (s .args .claim)) (c .before .before .before .first-overlapping .ensures) (task-count (s .args .shape) (jobOf (s .args .job .now))) (c .judge-timing .ensures) (c .before .if1 .left)
 
 pub judge-spec : {M : Type 1} → statement M

@@ -1,5 +1,5 @@
 -- `judge_claim` meets its contract.
-use Rattle.model.specs.Layout.{jobOf, planOf, instanceFrom, scheduleFrom}
+use Rattle.model.specs.Layout.{jobOf, entriesOf, instanceFrom, scheduleFrom}
 use Rattle.model.specs.Claims.{asClaim}
 use Rattle.validator.proofs.JudgeSteps.{judge-0, judge-18}
 use borrow.Author.Needs.{needs}
@@ -18,7 +18,7 @@ accepted-requires c κs = search needs
 returns : tie.Need-returns
 returns c = let s = c .before .before .before .before in
     let I = instanceFrom (s .args .shape) (jobOf (s .args .job .now)) in
-    let P = scheduleFrom (s .args .shape) (planOf (s .args .plan .now)) in
+    let P = scheduleFrom (s .args .shape) (entriesOf (s .args .schedule .now)) in
     judge-0 I P (asClaim (s .args .claim)) (c .before .before .before .true-claim .ensures .0) (c .before .before .same-claim .ensures) (c .accepted .ensures) (c .before .if1 .taken)
 
 refused-requires : tie.Need-refused-requires
@@ -27,7 +27,7 @@ refused-requires c κs = search needs
 returns-2 : tie.Need-returns-2
 returns-2 c = let s = c .before .before .before .before in
     let I = instanceFrom (s .args .shape) (jobOf (s .args .job .now)) in
-    let P = scheduleFrom (s .args .shape) (planOf (s .args .plan .now)) in
+    let P = scheduleFrom (s .args .shape) (entriesOf (s .args .schedule .now)) in
     judge-18 I P (asClaim (s .args .claim)) (c .before .before .before .true-claim .ensures .0) (c .before .before .same-claim .ensures) (c .refused .ensures) (c .before .if1 .left)
 
 pub judge-claim-spec : {M : Type 1} → statement M

@@ -1,5 +1,5 @@
 -- `judge_memory` meets its contract.
-use Rattle.model.specs.Layout.{jobOf, planOf, instanceFrom, scheduleFrom}
+use Rattle.model.specs.Layout.{jobOf, entriesOf, instanceFrom, scheduleFrom}
 use Rattle.model.specs.Claims.{asClaim}
 use Rattle.validator.proofs.JudgeSteps.{judge-17, memory-on}
 use borrow.Author.Needs.{needs}
@@ -18,7 +18,7 @@ refused-requires c κs = search needs
 returns : tie.Need-returns
 returns c = let s = c .before .before .before .before in
     let I = instanceFrom (s .args .shape) (jobOf (s .args .job .now)) in
-    let P = scheduleFrom (s .args .shape) (planOf (s .args .plan .now)) in
+    let P = scheduleFrom (s .args .shape) (entriesOf (s .args .schedule .now)) in
     judge-17 I P (asClaim (s .args .claim)) (c .before .before .before .settled .ensures) (c .before .before .first-over .ensures) (c .refused .ensures) (c .before .if1 .taken)
 
 judge-claim-requires : tie.Need-judge-claim-requires
@@ -27,7 +27,7 @@ judge-claim-requires c κs = search needs
 returns-2 : tie.Need-returns-2
 returns-2 c = let s = c .before .before .before .before in
     let I = instanceFrom (s .args .shape) (jobOf (s .args .job .now)) in
-    let P = scheduleFrom (s .args .shape) (planOf (s .args .plan .now)) in
+    let P = scheduleFrom (s .args .shape) (entriesOf (s .args .schedule .now)) in
     memory-on I P (asClaim (s .args .claim)) (c .before .before .before .settled .ensures) (c .before .before .first-over .ensures) (c .judge-claim .ensures) (c .before .if1 .left)
 
 pub judge-memory-spec : {M : Type 1} → statement M

@@ -1,6 +1,6 @@
 -- `true_claim` meets its contract.
 use native.Mathlib.Omega.{arith}
-use Rattle.model.specs.Layout.{jobOf, planOf, instanceFrom, scheduleFrom}
+use Rattle.model.specs.Layout.{jobOf, entriesOf, instanceFrom, scheduleFrom}
 use Rattle.validator.proofs.JudgeSteps.{true-claim}
 use borrow.Author.Needs.{needs}
 use Rattle.validator.proofs.judgement.true_claim.Statement.{statement}
@@ -18,7 +18,7 @@ peak-requires-2 c κs = search needs
 returns : tie.Need-returns
 returns c = let s = c .before .before .before in
     let I = instanceFrom (s .args .shape) (jobOf (s .args .job .now)) in
-    let P = scheduleFrom (s .args .shape) (planOf (s .args .plan .now)) in
+    let P = scheduleFrom (s .args .shape) (entriesOf (s .args .schedule .now)) in
     (true-claim I P (c .before .before .makespan .ensures .0) (c .before .peak .ensures .0) (c .peak2 .ensures .0), (omega arith, omega arith, omega arith))
 
 pub true-claim-spec : {M : Type 1} → statement M

@@ -2,7 +2,7 @@
 use Prim.Native.Nat.{_≤_, _-_}
 use mathlib.Core.Path.{_≡_, sym, _∙_}
 use native.Mathlib.Omega.{arith}
-use Rattle.model.specs.Layout.{jobOf, planOf, instanceFrom, scheduleFrom, colourBy}
+use Rattle.model.specs.Layout.{jobOf, entriesOf, instanceFrom, scheduleFrom, colourBy}
 use Rattle.validator.specs.Least.{leastWhere}
 use Rattle.validator.specs.Starts.{startIn, overAtStart}
 use Rattle.validator.proofs.LeastLaws.{least-none}
@@ -12,11 +12,11 @@ use Rattle.validator.proofs.memory.first_over_in.Statement.{statement}
 use Rattle.validator.proofs.memory.first_over_in.Tie as tie
 
 abbrev Inv-loop : tie.InvT-loop
-Inv-loop shape job plan blue last first₀ i₀ first i =
-    (i ≤ shape .files) × (first ≡ leastWhere i last (overAtStart (instanceFrom shape (jobOf job)) (scheduleFrom shape (planOf plan)) (colourBy blue)) (startIn (instanceFrom shape (jobOf job)) (scheduleFrom shape (planOf plan)) (colourBy blue)))
+Inv-loop shape job schedule colour last first₀ i₀ first i =
+    (i ≤ shape .files) × (first ≡ leastWhere i last (overAtStart (instanceFrom shape (jobOf job)) (scheduleFrom shape (entriesOf schedule)) (colourBy colour)) (startIn (instanceFrom shape (jobOf job)) (scheduleFrom shape (entriesOf schedule)) (colourBy colour)))
 
 abbrev μ-loop : tie.MeasureT-loop
-μ-loop shape job plan blue last first₀ i₀ first i = shape .files - i
+μ-loop shape job schedule colour last first₀ i₀ first i = shape .files - i
 
 loop-holds : tie.Need-loop-holds Inv-loop μ-loop
 loop-holds c = (omega arith, sym (least-none _ _ _))
@@ -27,8 +27,8 @@ hold-start-requires c κs = search needs
 over-at-requires : tie.Need-over-at-requires Inv-loop μ-loop
 over-at-requires c κs = search needs
 
-either-requires : tie.Need-either-requires Inv-loop μ-loop
-either-requires c κs = search needs
+select-requires : tie.Need-select-requires Inv-loop μ-loop
+select-requires c κs = search needs
 
 lesser-requires : tie.Need-lesser-requires Inv-loop μ-loop
 lesser-requires c κs = search needs
@@ -41,12 +41,12 @@ loop-less c = search needs
 
 loop-again : tie.Need-loop-again Inv-loop μ-loop
 loop-again c = let s = c .before .before .before .before .before .before .before in
-    omega (arith, over-turn (s .pre) (colourBy (s .args .blue)) (s .args .last) (c .before .before .before .before .before .before .loop .i) (c .before .before .before .hold-start .ensures) (c .before .before .over-at .ensures) (c .before .either .ensures .0))
+    omega (arith, over-turn (s .pre) (colourBy (s .args .colour)) (s .args .last) (c .before .before .before .before .before .before .loop .i) (c .before .before .before .hold-start .ensures) (c .before .before .over-at .ensures) (c .before .select .ensures .0))
 
 returns : tie.Need-returns Inv-loop μ-loop
 returns c =
     let s = c .before .before .before in
-    c .before .before .loop .inv .1 ∙ over-in-total (s .pre) (colourBy (s .args .blue)) (s .args .last) {n = c .before .before .loop .i} (omega arith)
+    c .before .before .loop .inv .1 ∙ over-in-total (s .pre) (colourBy (s .args .colour)) (s .args .last) {n = c .before .before .loop .i} (omega arith)
 
 pub first-over-in-spec : {M : Type 1} → statement M
 first-over-in-spec =
@@ -57,7 +57,7 @@ first-over-in-spec =
     loop-holds
     hold-start-requires
     over-at-requires
-    either-requires
+    select-requires
     lesser-requires
     add-i
     loop-less

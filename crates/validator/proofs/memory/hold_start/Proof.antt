@@ -13,7 +13,7 @@ start-of-requires c κs = search needs
 
 returns : tie.Need-returns
 returns c = let s = c .before .before in
-    start-from (s .pre .0) (colourBy (s .args .blue)) (s .args .k) (c .before .hold-of .result) (c .before .hold-of .ensures .0) (c .start-of .ensures)
+    start-from (s .pre .0) (colourBy (s .args .colour)) (s .args .k) (c .before .hold-of .result) (c .before .hold-of .ensures .0) (c .start-of .ensures)
 
 pub hold-start-spec : {M : Type 1} → statement M
 hold-start-spec = tie.close (tie.spec hold-of-requires start-of-requires returns)

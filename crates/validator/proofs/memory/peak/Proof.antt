@@ -3,7 +3,7 @@ use Prim.Native.Nat.{_≤_, _-_}
 use mathlib.Core.Path.{_≡_, sym}
 use native.Mathlib.Omega.{arith}
 use Rattle.rules.specs.Count.{maxBelow}
-use Rattle.model.specs.Layout.{jobOf, planOf, instanceFrom, scheduleFrom, colourBy, mostHeld}
+use Rattle.model.specs.Layout.{jobOf, entriesOf, instanceFrom, scheduleFrom, colourBy, mostHeld}
 use Rattle.model.proofs.StepLaws.{max-none}
 use Rattle.validator.specs.Starts.{heldAtStart}
 use Rattle.validator.proofs.Loops.{peak-turn, peak-total}
@@ -12,11 +12,11 @@ use Rattle.validator.proofs.memory.peak.Statement.{statement}
 use Rattle.validator.proofs.memory.peak.Tie as tie
 
 abbrev Inv-loop : tie.InvT-loop
-Inv-loop shape job plan blue most₀ i₀ most i =
-    (i ≤ shape .files) × (most ≤ mostHeld) × (most ≡ maxBelow i (heldAtStart (instanceFrom shape (jobOf job)) (scheduleFrom shape (planOf plan)) (colourBy blue)))
+Inv-loop shape job schedule colour most₀ i₀ most i =
+    (i ≤ shape .files) × (most ≤ mostHeld) × (most ≡ maxBelow i (heldAtStart (instanceFrom shape (jobOf job)) (scheduleFrom shape (entriesOf schedule)) (colourBy colour)))
 
 abbrev μ-loop : tie.MeasureT-loop
-μ-loop shape job plan blue most₀ i₀ most i = shape .files - i
+μ-loop shape job schedule colour most₀ i₀ most i = shape .files - i
 
 loop-holds : tie.Need-loop-holds Inv-loop μ-loop
 loop-holds c = (omega arith, omega arith, sym (max-none _))
@@ -38,11 +38,11 @@ loop-less c = search needs
 
 loop-again : tie.Need-loop-again Inv-loop μ-loop
 loop-again c = let s = c .before .before .before .before .before .before in
-    omega (arith, peak-turn (s .pre .0) (colourBy (s .args .blue)) (c .before .before .before .before .before .loop .i) (c .before .before .hold-start .ensures) (c .before .held-at .ensures .0))
+    omega (arith, peak-turn (s .pre .0) (colourBy (s .args .colour)) (c .before .before .before .before .before .loop .i) (c .before .before .hold-start .ensures) (c .before .held-at .ensures .0))
 
 returns : tie.Need-returns Inv-loop μ-loop
 returns c = let s = c .before .before .before in
-    omega (arith, peak-total (s .pre .0) (colourBy (s .args .blue)) (s .pre .1) {n = c .before .before .loop .i} (omega arith))
+    omega (arith, peak-total (s .pre .0) (colourBy (s .args .colour)) (s .pre .1) {n = c .before .before .loop .i} (omega arith))
 
 pub peak-spec : {M : Type 1} → statement M
 peak-spec =

@@ -3,7 +3,7 @@ use Prim.Native.Nat.{_≤_, _-_}
 use mathlib.Core.Path.{_≡_, sym, _∙_}
 use native.Mathlib.Omega.{arith}
 use Rattle.rules.specs.Validity.{early}
-use Rattle.model.specs.Layout.{jobOf, planOf, instanceFrom, scheduleFrom}
+use Rattle.model.specs.Layout.{jobOf, entriesOf, instanceFrom, scheduleFrom}
 use Rattle.validator.specs.Least.{leastWhere}
 use Rattle.validator.proofs.LeastLaws.{least-none}
 use Rattle.validator.proofs.EarlyLaws.{readerOf}
@@ -13,11 +13,11 @@ use Rattle.validator.proofs.timing.first_early.Statement.{statement}
 use Rattle.validator.proofs.timing.first_early.Tie as tie
 
 abbrev Inv-loop : tie.InvT-loop
-Inv-loop shape job plan tasks first₀ i₀ first i =
-    (i ≤ shape .files) × (first ≡ leastWhere i (shape .tasks) (early (instanceFrom shape (jobOf job)) (scheduleFrom shape (planOf plan))) (readerOf (instanceFrom shape (jobOf job))))
+Inv-loop shape job schedule tasks first₀ i₀ first i =
+    (i ≤ shape .files) × (first ≡ leastWhere i (shape .tasks) (early (instanceFrom shape (jobOf job)) (scheduleFrom shape (entriesOf schedule))) (readerOf (instanceFrom shape (jobOf job))))
 
 abbrev μ-loop : tie.MeasureT-loop
-μ-loop shape job plan tasks first₀ i₀ first i = shape .files - i
+μ-loop shape job schedule tasks first₀ i₀ first i = shape .files - i
 
 loop-holds : tie.Need-loop-holds Inv-loop μ-loop
 loop-holds c = (omega arith, sym (least-none _ _ _))
@@ -28,8 +28,8 @@ early-file-requires c κs = search needs
 reader-requires : tie.Need-reader-requires Inv-loop μ-loop
 reader-requires c κs = search needs
 
-either-requires : tie.Need-either-requires Inv-loop μ-loop
-either-requires c κs = search needs
+select-requires : tie.Need-select-requires Inv-loop μ-loop
+select-requires c κs = search needs
 
 lesser-requires : tie.Need-lesser-requires Inv-loop μ-loop
 lesser-requires c κs = search needs
@@ -42,7 +42,7 @@ loop-less c = search needs
 
 loop-again : tie.Need-loop-again Inv-loop μ-loop
 loop-again c = let s = c .before .before .before .before .before .before .before in
-    omega (arith, early-turn (s .pre) (c .before .before .before .before .if1 .taken) (s .args .shape .tasks) (c .before .before .before .early-file .ensures) (c .before .before .reader .ensures) (c .before .either .ensures .0))
+    omega (arith, early-turn (s .pre) (c .before .before .before .before .if1 .taken) (s .args .shape .tasks) (c .before .before .before .early-file .ensures) (c .before .before .reader .ensures) (c .before .select .ensures .0))
 
 returns : tie.Need-returns Inv-loop μ-loop
 returns c = let s = c .before .before .before in
@@ -57,7 +57,7 @@ first-early-spec =
     loop-holds
     early-file-requires
     reader-requires
-    either-requires
+    select-requires
     lesser-requires
     add-i
     loop-less

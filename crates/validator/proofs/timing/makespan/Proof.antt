@@ -4,7 +4,7 @@ use mathlib.Core.Path.{_≡_, sym}
 use native.Mathlib.Omega.{arith}
 use Rattle.rules.specs.Count.{maxBelow}
 use Rattle.rules.specs.Model.{finishAt}
-use Rattle.model.specs.Layout.{jobOf, planOf, instanceFrom, scheduleFrom, lastTick}
+use Rattle.model.specs.Layout.{jobOf, entriesOf, instanceFrom, scheduleFrom, lastTick}
 use Rattle.model.proofs.StepLaws.{max-none, max-next}
 use Rattle.validator.proofs.Loops.{span-total}
 use borrow.Author.Needs.{needs}
@@ -12,11 +12,11 @@ use Rattle.validator.proofs.timing.makespan.Statement.{statement}
 use Rattle.validator.proofs.timing.makespan.Tie as tie
 
 abbrev Inv-loop : tie.InvT-loop
-Inv-loop shape job plan most₀ i₀ most i =
-    (i ≤ shape .tasks) × (most ≤ lastTick) × (most ≡ maxBelow i (finishAt (instanceFrom shape (jobOf job)) (scheduleFrom shape (planOf plan))))
+Inv-loop shape job schedule most₀ i₀ most i =
+    (i ≤ shape .tasks) × (most ≤ lastTick) × (most ≡ maxBelow i (finishAt (instanceFrom shape (jobOf job)) (scheduleFrom shape (entriesOf schedule))))
 
 abbrev μ-loop : tie.MeasureT-loop
-μ-loop shape job plan most₀ i₀ most i = shape .tasks - i
+μ-loop shape job schedule most₀ i₀ most i = shape .tasks - i
 
 loop-holds : tie.Need-loop-holds Inv-loop μ-loop
 loop-holds c = (omega arith, omega arith, sym (max-none _))
@@ -36,7 +36,7 @@ loop-less c = search needs
 loop-again : tie.Need-loop-again Inv-loop μ-loop
 loop-again c = let s = c .before .before .before .before .before in
     let i = c .before .before .before .before .loop .i in
-    omega (arith, max-next (finishAt (instanceFrom (s .args .shape) (jobOf (s .args .job .now))) (scheduleFrom (s .args .shape) (planOf (s .args .plan .now)))) i, c .before .finish .ensures .0)
+    omega (arith, max-next (finishAt (instanceFrom (s .args .shape) (jobOf (s .args .job .now))) (scheduleFrom (s .args .shape) (entriesOf (s .args .schedule .now)))) i, c .before .finish .ensures .0)
 
 returns : tie.Need-returns Inv-loop μ-loop
 returns c = let s = c .before .before .before in
