@@ -12,10 +12,14 @@ use borrow.Author.Tests.{leb-true, leb-false, le-leb, lt-leb, eqb-false, eq-eqb,
 use Rattle.rules.specs.Limits.{maxText}
 use Rattle.rules.specs.Model.{Instance, taskCount, fileCount, fileAt, Run, Schedule, moved}
 use Rattle.rules.specs.Validity.{Claim}
-use Rattle.rules.specs.Text.{Fault, tooLong, malformed, undue, Line, linesOf, Reading, wrong, right, due, faultOf}
-use Rattle.rules.specs.ScheduleText.{ScheduleLine, runLine, moveLine, claimLine, scheduleLine, runOf, moveOf, claimOf, ScheduleRead, refused, read, readEnd, readClaim, readMoves, readRuns, readSchedule}
+use Rattle.rules.specs.Text.{Fault, tooLong, malformed, undue, Line, linesOf, wrong, right, due}
+use Rattle.rules.specs.ScheduleText.{ScheduleLine, runLine, moveLine, claimLine, scheduleLine, runOf, moveOf, claimOf, ScheduleRead, refused}
+use Rattle.rules.specs.ScheduleText.{readEnd, readClaim, readMoves, readRuns, readSchedule}
 use Rattle.rules.specs.Promises.{First}
-use Rattle.rules.specs.ScheduleFaults.{DueLine, run, move, claim, end, SoFar, before, behind, StillMoves, Due, nextRun, nextMove, lastly, nothing, NotDue, otherTask, moveForRun, claimForRun, otherMaker, otherReader, runForMove, claimForMove, runForClaim, moveForClaim, behindClaim, Taken, aRun, aMove, theClaim, FirstBad, absent, unread, another, later, ScheduleFault, long, atLine, ScheduleFaults}
+use Rattle.rules.specs.ScheduleFaults.{DueLine, run, move, claim, end, SoFar, before, behind, StillMoves, Due, nextRun, nextMove, lastly}
+use Rattle.rules.specs.ScheduleFaults.{nothing, NotDue, otherTask, moveForRun, claimForRun, otherMaker, otherReader, runForMove, claimForMove}
+use Rattle.rules.specs.ScheduleFaults.{runForClaim, moveForClaim, behindClaim, Taken, aRun, aMove, theClaim, FirstBad, absent, unread, another}
+use Rattle.rules.specs.ScheduleFaults.{later, ScheduleFault, long, atLine, ScheduleFaults}
 use Rattle.rules.proofs.Tests.{split, clash, and-no}
 use Rattle.rules.proofs.FormLaws.{none-some}
 use Rattle.rules.proofs.ReadingLaws.{by-reading, length-snoc}
