@@ -1,10 +1,10 @@
 // The verdict on a complete schedule: refusals 15 to 18 in their order, or acceptance.
 ghost use mathlib.Core.Path.{_≡_};
 ghost use Prim.Native.Nat.{_≤_};
-ghost use Rattle.rules.specs.Validity.{trueClaim, sameClaim, refusedBy, acceptedWith, judge as rules-judge};
+ghost use Rattle.rules.specs.Validity.{trueClaim, sameClaim, refusedBy, acceptedWith, judgedClaim, judgedMemory, judgedTiming, judge as rules-judge};
 ghost use Rattle.model.specs.Claims.{asClaim};
 ghost use Rattle.model.specs.Layout.{entriesOf, instanceOf, scheduleOf, InBounds, lastTick, mostHeld};
-ghost use Rattle.validator.specs.Answer.{asVerdict, judgedClaim, judgedMemory, judgedTiming};
+ghost use Rattle.validator.specs.Answer.{asVerdict};
 ghost use Rattle.validator.specs.Complete.{Placed};
 use super::exclusion::first_overlapping;
 use super::memory::first_over;
