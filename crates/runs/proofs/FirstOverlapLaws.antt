@@ -1,5 +1,5 @@
--- The lowest run of a list that overlaps another: how it changes with one run more, what a scan of the list's first runs knows of it, and the first runs of a list
--- by themselves and in the list.
+-- The lowest run of a list that overlaps another: how it changes with one run more, what a scan of the list's first runs knows of it, and the first runs of a
+-- list by themselves and in the list.
 use Prim.Native.Nat.{ℕ, _+_, _<_, _≤_, zero-le}
 use mathlib.Core.Path.{_≡_, refl, sym, _∙_, ap}
 use mathlib.Core.Bool.{Bool, false, _&&_}
@@ -108,7 +108,8 @@ module _ (l : List Run) (k : ℕ) (s : Scan) (p : Passed l k s) where
   same-other : firstBelow (s .n) (overlapsAt (s .runs) (getD l k noRun)) ≡ firstBelow k (overlapsAt l (getD l k noRun))
   same-other =
       rw (p .count)
-      (first-cong k (overlapsAt (s .runs) (getD l k noRun)) (overlapsAt l (getD l k noRun)) (λ i m. ap (λ (x : Run). overlapping x (getD l k noRun)) (p .stored i m)))
+      (first-cong k (overlapsAt (s .runs) (getD l k noRun)) (overlapsAt l (getD l k noRun))
+      (λ i m. ap (λ (x : Run). overlapping x (getD l k noRun)) (p .stored i m)))
 
   stored-more : k < maxTasks → (i : ℕ) → i < k + 1 → getD (set (s .runs) (s .n) (getD l k noRun)) i noRun ≡ getD l i noRun
   stored-more few i m = elim (ℕ-discrete i k) [

@@ -1,6 +1,7 @@
 -- `first_overlap` meets its contract: a walk of its MIR, by hand, with a loop. All that the proof knows of `empty_scan` and of `scan_run` is that each meets
--- its contract. A turn looks into the slice's fractured borrow, copies the run at i out of the row of elements, shuts the borrow again, and calls `scan_run` with
--- the scan so far and that run. The invariant: the runs before i are passed, where the slice has at most `maxTasks` runs. The variant is how many runs are left.
+-- its contract. A turn looks into the slice's fractured borrow, copies the run at i out of the row of elements, shuts the borrow again, and calls `scan_run`
+-- with the scan so far and that run. The invariant: the runs before i are passed, where the slice has at most `maxTasks` runs. The variant is how many runs
+-- are left.
 use mathlib.Core.Path.{_≡_, refl, sym, ap, subst}
 use Prim.Native.Nat.{ℕ, _+_, _*_, _-_, _≤_, _<_, _^_, zero-le}
 use native.Mathlib.Nat.{le-antisymm}
@@ -24,9 +25,11 @@ use prog.Wp.{Heap, Out, Env, exits as exitsᴼ, afterSeq, afterBlock, afterTurn,
 use ghost.Atoms.{Atoms, sem}
 use contract.Monad.{Fun, fact}
 use contract.Running.{givenOf, tables, tablesOf}
-use types.Kit.{Given, Item, ‵, raw, _⊛_, some, later, ⋆, Post as PostQ, post, runs, prop, anyQ, atRet, Seq, Sq, _$_, _∵_, !, qed, by, move, keep, drop, use0, use1, use2, split, join, pick, rewrite, fsplit, fjoin, suffices, frame, await, done}
+use types.Kit.{Given, Item, ‵, raw, _⊛_, some, later, ⋆, Post as PostQ, post, runs, prop, anyQ, atRet, Seq, Sq, _$_, _∵_, !, qed, by, move, keep, drop, use0}
+use types.Kit.{use1, use2, split, join, pick, rewrite, fsplit, fjoin, suffices, frame, await, done}
 use types.Part.{whole, sub, look-in}
-use types.Run.{Opd, look, look-raw, store, init, forget, stop, hop, fld, from, load, lit, of-opd, bin, and-then, no-more, assigns, assigns-last, land, first, skips, jumps, blocks, branches, returns, enter, alloc1, alloc0, params1, pass1, pass0, free1, free0, exec, Below, again, loops}
+use types.Run.{Opd, look, look-raw, store, init, forget, stop, hop, fld, from, load, lit, of-opd, bin, and-then, no-more, assigns, assigns-last, land, first}
+use types.Run.{skips, jumps, blocks, branches, returns, enter, alloc1, alloc0, params1, pass1, pass0, free1, free0, exec, Below, again, loops}
 use types.Share.{arr-parts}
 use sound.WpLaws.{fmOf, WpFn-mono}
 use denote.RattleType.{owns}
@@ -73,9 +76,11 @@ use Rattle.runs.proofs.first_overlap.Code as code
 use Rattle.runs.proofs.first_overlap.Code.Mir.{turn-1, t-3, t-4}
 
 -- the test of a `while`: the turn goes on knowing that it holds, or the loop is left knowing that it fails
-tests : {M : Type 1} {𝓤 : URA M} {H : Heap 𝓤} {A : Atoms 𝓤} {K : Type 0} {W : Given 𝓤 H A} {Γ : List (Item 𝓤)} {E : Env 𝓤 H} {C : Calls 𝓤 H} {Λ : Loops 𝓤 H} {q : PostQ 𝓤 H}
+tests : {M : Type 1} {𝓤 : URA M} {H : Heap 𝓤} {A : Atoms 𝓤} {K : Type 0} {W : Given 𝓤 H A}
+    {Γ : List (Item 𝓤)} {E : Env 𝓤 H} {C : Calls 𝓤 H} {Λ : Loops 𝓤 H} {q : PostQ 𝓤 H}
     → K → {c : Operand} {n : ℕ} {b : Body} {y : Bool} → Opd K W Γ E c (vbool y)
-    → (Holds y → Seq K W Γ (runs C Λ E b q)) → (Holds (not y) → Seq K W Γ (prop (post 𝓤 H q (exitsᴼ n)))) → Seq K W Γ (runs C Λ E (seq (cond c skipᴹ (exit n)) b) q)
+    → (Holds y → Seq K W Γ (runs C Λ E b q)) → (Holds (not y) → Seq K W Γ (prop (post 𝓤 H q (exitsᴼ n))))
+    → Seq K W Γ (runs C Λ E (seq (cond c skipᴹ (exit n)) b) q)
 tests t o more over = first t $ branches t o (λ h. skips t $ record { prf = more h .prf }) (λ h. jumps t $ record { prf = over h .prf })
 
 abbrev stayed : Stays (over.ended .signature .params) (over.ended .kept)
@@ -91,7 +96,8 @@ record State (ys : List Run) : Type 0 where
   so : length ys ≤ maxTasks → Passed ys i r
 
 -- one run more is passed
-goes-on : (ys : List Run) (s : State ys) (r′ : Scan) → s .i < length ys → r′ ≡ scanRun (s .r) (getD ys (s .i) noRun) → length ys ≤ maxTasks → Passed ys (s .i + 1) r′
+goes-on : (ys : List Run) (s : State ys) (r′ : Scan) → s .i < length ys → r′ ≡ scanRun (s .r) (getD ys (s .i) noRun) → length ys ≤ maxTasks
+    → Passed ys (s .i + 1) r′
 goes-on ys s r′ l e few = rw e (passed-more ys (s .i) (s .r) (s .so few) (omega arith))
 
 -- every run is passed
@@ -113,7 +119,8 @@ module _ {M : Type 1} (𝓤 : URA M) (H : Heap 𝓤) (A : Atoms 𝓤) (mem : Mem
   step-said : (s : Scan) (x : Run) (r : Scan) → ent 𝓤 (ensured 𝓤 H A step.ended (step.clauses 𝓤 H A mem run) tt (s, (x, tt)) tt r) (fact 𝓤 (r ≡ scanRun s x))
   step-said s x r = exE 𝓤 _ (λ ws. snd∗ 𝓤 (sem 𝓤 H A (lasts step.ended tt (s, (x, tt)) ws)) (fact 𝓤 (r ≡ scanRun s x)))
 
-module _ {M : Type 1} (𝓤 : URA M) (H : Heap 𝓤) (A : Atoms 𝓤) (W : Given 𝓤 H A) (mem : Memory → SProp 𝓤) (run : Routine → Fun 𝓤) (κ : Lft) (q : Share) (b o : ℕ) (γ : GName) (ys : List Run) where
+module _ {M : Type 1} (𝓤 : URA M) (H : Heap 𝓤) (A : Atoms 𝓤) (W : Given 𝓤 H A) (mem : Memory → SProp 𝓤) (run : Routine → Fun 𝓤)
+    (κ : Lft) (q : Share) (b o : ℕ) (γ : GName) (ys : List Run) where
   abbrev x : RefT (List Run)
   x = record { ptr = (b, o); name = γ; now = ys }
 
@@ -127,10 +134,12 @@ module _ {M : Type 1} (𝓤 : URA M) (H : Heap 𝓤) (A : Atoms 𝓤) (W : Given
   abbrev Own : Fml
   Own = ShrSlice (named 0) κ R.the-row .own x (v ∷ [])
 
-  exits : (r : ℕ) → (length ys ≤ maxTasks → FirstOverlap ys (length ys) r) → r < 2 ^ 64 → ent 𝓤 (⋆ 𝓤 H A ((‵ (flft κ q) ⊛ ‵ ftrue) ∷ ‵ Own ∷ [])) (Post (vint w64 r))
+  exits : (r : ℕ) → (length ys ≤ maxTasks → FirstOverlap ys (length ys) r) → r < 2 ^ 64
+      → ent 𝓤 (⋆ 𝓤 H A ((‵ (flft κ q) ⊛ ‵ ftrue) ∷ ‵ Own ∷ [])) (Post (vint w64 r))
   exits r e fits =
       qed W ((‵ (flft κ q) ⊛ ‵ ftrue) ∷ ‵ Own ∷ []) ∵
-      suffices ! _ (ends-at 𝓤 H A over.ended stayed (over.clauses 𝓤 H A mem run) W (((κ, tt), (q, tt), tt, (x, tt), (v ∷ [], tt)), tt) (vint w64 r) r (tt, tt) (tt, tt)) $ says ! e $
+      suffices ! _ (ends-at 𝓤 H A over.ended stayed (over.clauses 𝓤 H A mem run) W (((κ, tt), (q, tt), tt, (x, tt), (v ∷ [], tt)), tt) (vint w64 r) r
+      (tt, tt) (tt, tt)) $ says ! e $
       frame ! $ nothing ! $ move ! (1 ∷ 0 ∷ []) $ fjoin ! $ frame ! $ owned ! usize (Is usize) (uint-makes 𝓤 H A W w64) r _ (refl, fits) $ done !
 
   abbrev to-empty : Empty 𝓤 H A mem run .Ghost
@@ -142,7 +151,8 @@ module _ {M : Type 1} (𝓤 : URA M) (H : Heap 𝓤) (A : Atoms 𝓤) (W : Given
   abbrev to-step : Scan → Val → Run → Step 𝓤 H A mem run .Ghost
   to-step r u y = ((tt, tt, tt, (r, (y, tt)), (u ∷ [], (R′.lowered y ∷ [], tt))), tt)
 
-  asks-step : (r : Scan) (u : Val) (y : Run) → ent 𝓤 (sep 𝓤 (sem 𝓤 H A (S.the-row .own r (u ∷ []))) (sem 𝓤 H A (R.the-row .own y (R′.lowered y ∷ [])))) (Step 𝓤 H A mem run .pre (to-step r u y))
+  asks-step : (r : Scan) (u : Val) (y : Run)
+      → ent 𝓤 (sep 𝓤 (sem 𝓤 H A (S.the-row .own r (u ∷ []))) (sem 𝓤 H A (R.the-row .own y (R′.lowered y ∷ [])))) (Step 𝓤 H A mem run .pre (to-step r u y))
   asks-step r u y =
       qed W (‵ (S.the-row .own r (u ∷ [])) ∷ ‵ (R.the-row .own y (R′.lowered y ∷ [])) ∷ []) ∵
       nothing ! $ move ! (2 ∷ 0 ∷ []) $ fjoin ! $ move ! (1 ∷ 0 ∷ []) $ fjoin ! $ nothing ! $ join ! $ frame ! $ done !
@@ -153,7 +163,8 @@ module _ {M : Type 1} (𝓤 : URA M) (H : Heap 𝓤) (A : Atoms 𝓤) (W : Given
   Nearer-wf : WellFounded Nearer
   Nearer-wf = InvImage·wf (λ (s : State ys). length ys - s .i) (Nat·lt-wfRel .wf)
 
-  module _ (𝓣 : Tables 𝓤 H) (known-empty : Triple 𝓤 (𝓣 .C #runs·empty-scan) (Empty 𝓤 H A mem run)) (known-step : Triple 𝓤 (𝓣 .C #runs·scan-run) (Step 𝓤 H A mem run)) (room : Room R.the-row (length ys)) where
+  module _ (𝓣 : Tables 𝓤 H) (known-empty : Triple 𝓤 (𝓣 .C #runs·empty-scan) (Empty 𝓤 H A mem run))
+      (known-step : Triple 𝓤 (𝓣 .C #runs·scan-run) (Step 𝓤 H A mem run)) (room : Room R.the-row (length ys)) where
     abbrev C : Calls 𝓤 H
     C = 𝓣 .C
 
@@ -171,9 +182,13 @@ module _ {M : Type 1} (𝓤 : URA M) (H : Heap 𝓤) (A : Atoms 𝓤) (W : Given
       En = (word, l₀) ∷ (slice, l₁) ∷ (S′.mir, l₂) ∷ (word, l₃) ∷ (word, l₄) ∷ (tyBool, l₅) ∷ (tyPtr, l₆) ∷ (R′.mir, l₇) ∷ []
 
       abbrev At : State ys → List (Item 𝓤)
-      At s = ‵ (froom R′.mir l₇ 0) ∷ ‵ (fdies R′.mir l₇) ∷ ‵ (froom tyPtr l₆ 0) ∷ ‵ (fdies tyPtr l₆) ∷ ‵ (froom tyBool l₅ 0) ∷ ‵ (fdies tyBool l₅) ∷ ‵ (froom word l₄ 0) ∷ ‵ (fdies word l₄)
-          ∷ ‵ (fat fullShare word l₃ 0 (vint w64 (s .i))) ∷ ‵ (fdies word l₃) ∷ ‵ (fat fullShare S′.mir l₂ 0 (s .u)) ∷ ‵ (fdies S′.mir l₂) ∷ ‵ (fat fullShare slice l₁ 0 v) ∷ ‵ (fdies slice l₁) ∷ ‵ (froom word l₀ 0) ∷ ‵ (fdies word l₀)
-          ∷ ‵ (flft κ q) ∷ ‵ (fshr-bor κ (λ p. arr-parts (shares R.the-row) (length ys) .part p ys b o)) ∷ ‵ (at-slice R.the-row x (v ∷ [])) ∷ ‵ (fres γ (codedHoleys R.the-row .code (heres R.the-row ys)))
+      At s =
+          ‵ (froom R′.mir l₇ 0) ∷ ‵ (fdies R′.mir l₇) ∷ ‵ (froom tyPtr l₆ 0) ∷ ‵ (fdies tyPtr l₆) ∷ ‵ (froom tyBool l₅ 0) ∷ ‵ (fdies tyBool l₅)
+          ∷ ‵ (froom word l₄ 0) ∷ ‵ (fdies word l₄)
+          ∷ ‵ (fat fullShare word l₃ 0 (vint w64 (s .i))) ∷ ‵ (fdies word l₃) ∷ ‵ (fat fullShare S′.mir l₂ 0 (s .u)) ∷ ‵ (fdies S′.mir l₂)
+          ∷ ‵ (fat fullShare slice l₁ 0 v) ∷ ‵ (fdies slice l₁) ∷ ‵ (froom word l₀ 0) ∷ ‵ (fdies word l₀)
+          ∷ ‵ (flft κ q) ∷ ‵ (fshr-bor κ (λ p. arr-parts (shares R.the-row) (length ys) .part p ys b o)) ∷ ‵ (at-slice R.the-row x (v ∷ []))
+          ∷ ‵ (fres γ (codedHoleys R.the-row .code (heres R.the-row ys)))
           ∷ ‵ (S.the-row .own (s .r) (s .u ∷ [])) ∷ []
 
       -- the run at i
@@ -187,37 +202,52 @@ module _ {M : Type 1} (𝓤 : URA M) (H : Heap 𝓤) (A : Atoms 𝓤) (W : Given
       turns : (s : State ys) → Sq W (At s) (runs C Λ En turn-1 (anyQ (Turned s)))
       unfolding afterTurn
       turns s =
-          assigns ! (of-opd ! (load ! (from ! (fld ! refl (stop !))) (look-in ! 12 (sub ! 1 refl (whole !))))) (from ! (stop !)) (init ! 6 refl (tt, record { fits = room .0 })) $
-          assigns ! (bin ! (load ! (from ! (stop !)) (look ! 8 refl)) (load ! (from ! (stop !)) (look ! 6 refl)) tt) (from ! (stop !)) (init ! 4 refl (tt, tt)) $
+          assigns ! (of-opd ! (load ! (from ! (fld ! refl (stop !))) (look-in ! 12 (sub ! 1 refl (whole !))))) (from ! (stop !))
+          (init ! 6 refl (tt, record { fits = room .0 })) $
+          assigns ! (bin ! (load ! (from ! (stop !)) (look ! 8 refl)) (load ! (from ! (stop !)) (look ! 6 refl)) tt) (from ! (stop !))
+          (init ! 4 refl (tt, tt)) $
           tests ! (load ! (from ! (stop !)) (look ! 4 refl))
           (λ less. let l : s .i < length ys = ltb→lt (s .i) (length ys) less in
-          assigns ! (bin ! (load ! (from ! (stop !)) (look ! 8 refl)) (lit ! tt) (record { fits = scaled l })) (from ! (stop !)) (store ! 6 refl (tt, record { fits = scaled l })) $
-          assigns ! (bin ! (load ! (from ! (fld ! refl (stop !))) (look-in ! 12 (sub ! 0 refl (whole !)))) (load ! (from ! (stop !)) (look ! 6 refl)) tt) (from ! (stop !)) (init ! 2 refl (tt, tt)) $
+          assigns ! (bin ! (load ! (from ! (stop !)) (look ! 8 refl)) (lit ! tt) (record { fits = scaled l })) (from ! (stop !))
+          (store ! 6 refl (tt, record { fits = scaled l })) $
+          assigns ! (bin ! (load ! (from ! (fld ! refl (stop !))) (look-in ! 12 (sub ! 0 refl (whole !)))) (load ! (from ! (stop !)) (look ! 6 refl)) tt)
+          (from ! (stop !)) (init ! 2 refl (tt, tt)) $
           rewrite ! 2 (λ (p : ℕ). ‵ (fat fullShare tyPtr l₆ 0 (vptr b p))) (sym (place-is 24 o (s .i))) refl $
           -- the run at i: it is looked at through the slice's borrow, and copied
-          move ! (17 ∷ 16 ∷ []) $ looks-slice ! tt R.the-row (Is R.the-row) (shows 𝓤 H A R.the-row) (LL.vals R.the-type R′.the-laws) (LL.tells R.the-type R′.the-laws) (LL.copy R.the-type R′.the-copy 𝓤 H A W) ys b o (λ q′.
-          elem-out ! R.the-row (Is R.the-row) (shows 𝓤 H A R.the-row) (LL.vals R.the-type R′.the-laws) (LL.tells R.the-type R′.the-laws) q′ ys (s .i) noRun b o l (λ g.
-          -- [runs[i]; what it owns; the others; what shuts; the borrow; _7; …; _6; …; _5; …; _4; …; _3; …; _2; …; _1; …; _0; …; the slice's fact; res; what _2 owns]
-          assigns ! (of-opd ! (load ! (from ! (hop ! (look ! 7 refl) (stop !))) (look-raw ! 0 refl))) (from ! (stop !)) (init ! 5 refl (LL.lawful R.the-type R′.the-laws 𝓤 H A W .typed (el s) _ g .0)) $
+          move ! (17 ∷ 16 ∷ []) $
+          looks-slice ! tt R.the-row (Is R.the-row) (shows 𝓤 H A R.the-row) (LL.vals R.the-type R′.the-laws) (LL.tells R.the-type R′.the-laws)
+          (LL.copy R.the-type R′.the-copy 𝓤 H A W) ys b o (λ q′.
+          elem-out ! R.the-row (Is R.the-row) (shows 𝓤 H A R.the-row) (LL.vals R.the-type R′.the-laws) (LL.tells R.the-type R′.the-laws)
+          q′ ys (s .i) noRun b o l (λ g.
+          -- [runs[i]; what it owns; the others; what shuts; the borrow; _7; …; _6; …; …; _0; …; the slice's fact; res; what _2 owns]
+          assigns ! (of-opd ! (load ! (from ! (hop ! (look ! 7 refl) (stop !))) (look-raw ! 0 refl))) (from ! (stop !))
+          (init ! 5 refl (LL.lawful R.the-type R′.the-laws 𝓤 H A W .typed (el s) _ g .0)) $
           elem-back ! R.the-row q′ ys (s .i) noRun (R′.lowered (el s) ∷ []) b o l $ shuts-slice ! tt R.the-row q′ ys b o $
           -- [the token; the borrow; _7; …; the slice's fact; res; what _2 owns]: a run owns only facts, so what the callee asks of it is had for nothing
           move ! (20 ∷ []) $ owned ! R.the-row (Is R.the-row) (LL.makes R.the-type R′.the-plain 𝓤 H A) (el s) (R′.lowered (el s) ∷ []) g $ move ! (1 ∷ 0 ∷ []) $
           use2 W (raw (Step 𝓤 H A mem run .pre (to-step (s .r) (s .u) (el s)))) (asks-step (s .r) (s .u) (el s)) $
           -- [what the callee asks; the token; the borrow; _7; …; the slice's fact; res]
-          calls-at ! (fmOf 𝓤 H (W .laws) 𝓣) (Step 𝓤 H A mem run) known-step (to-step (s .r) (s .u) (el s)) (and-then ! (load ! (from ! (stop !)) (look ! 13 refl)) (and-then ! (load ! (from ! (stop !)) (look ! 3 refl)) (no-more !))) (λ u.
-          use1 W (later (some (λ (r : Scan). (‵ ftrue ⊛ ‵ (S.the-row .own r (u ∷ []))) ⊛ raw (ensured 𝓤 H A step.ended (step.clauses 𝓤 H A mem run) tt (s .r, (el s, tt)) tt r)))) (id⊢ 𝓤 _) $ await ! tt $ pick ! (λ r.
-          split ! $ move ! (1 ∷ []) $ use1 W (raw (fact 𝓤 (r ≡ scanRun (s .r) (el s)))) (step-said 𝓤 H A mem run (s .r) (el s) r) $ heard ! (r ≡ scanRun (s .r) (el s)) (λ e. split ! $ drop ! $
+          calls-at ! (fmOf 𝓤 H (W .laws) 𝓣) (Step 𝓤 H A mem run) known-step (to-step (s .r) (s .u) (el s))
+          (and-then ! (load ! (from ! (stop !)) (look ! 13 refl)) (and-then ! (load ! (from ! (stop !)) (look ! 3 refl)) (no-more !))) (λ u.
+          use1 W (later (some (λ (r : Scan). (‵ ftrue ⊛ ‵ (S.the-row .own r (u ∷ [])))
+          ⊛ raw (ensured 𝓤 H A step.ended (step.clauses 𝓤 H A mem run) tt (s .r, (el s, tt)) tt r)))) (id⊢ 𝓤 _) $ await ! tt $ pick ! (λ r.
+          split ! $ move ! (1 ∷ []) $ use1 W (raw (fact 𝓤 (r ≡ scanRun (s .r) (el s)))) (step-said 𝓤 H A mem run (s .r) (el s) r) $
+          heard ! (r ≡ scanRun (s .r) (el s)) (λ e. split ! $ drop ! $
           peeks ! S.the-row (Is S.the-row) (shows 𝓤 H A S.the-row) r (u ∷ []) (λ is.
           land ! (from ! (stop !)) (store ! 13 refl (LL.lawful S.the-type S′.the-laws 𝓤 H A W .typed r _ is .0)) $
-          assigns-last ! (bin ! (load ! (from ! (stop !)) (look ! 11 refl)) (lit ! tt) (record { fits = more l })) (from ! (stop !)) (store ! 11 refl (tt, record { fits = more l })) $
+          assigns-last ! (bin ! (load ! (from ! (stop !)) (look ! 11 refl)) (lit ! tt) (record { fits = more l })) (from ! (stop !))
+          (store ! 11 refl (tt, record { fits = more l })) $
           forget ! 3 refl $ forget ! 5 refl $ forget ! 7 refl $ forget ! 9 refl $
           move ! (3 ∷ 4 ∷ 5 ∷ 6 ∷ 7 ∷ 8 ∷ 9 ∷ 10 ∷ 11 ∷ 12 ∷ 13 ∷ 14 ∷ 15 ∷ 16 ∷ 17 ∷ 18 ∷ 1 ∷ 2 ∷ 19 ∷ 20 ∷ 0 ∷ []) $
-          again ! Nearer At s (record { i = s .i + 1; within = add-one-le l; r = r; u = u; is = is; so = goes-on ys s r l e }) (add-one-dec (length ys) (s .i) l))))))))
+          again ! Nearer At s (record { i = s .i + 1; within = add-one-le l; r = r; u = u; is = is; so = goes-on ys s r l e })
+          (add-one-dec (length ys) (s .i) l))))))))
           (λ past. exec ! C Λ En t-4 (atRet En Post) $
           rewrite ! 10 (λ (z : Val). ‵ (fat fullShare S′.mir l₂ 0 z)) (ap only (LL.tells S.the-type S′.the-laws (s .r) _ (s .is))) refl $
-          assigns ! (of-opd ! (load ! (from ! (fld ! refl (stop !))) (look-in ! 10 (sub ! 2 refl (whole !))))) (from ! (stop !)) (init ! 14 refl (tt, record { fits = first-fits })) $
+          assigns ! (of-opd ! (load ! (from ! (fld ! refl (stop !))) (look-in ! 10 (sub ! 2 refl (whole !))))) (from ! (stop !))
+          (init ! 14 refl (tt, record { fits = first-fits })) $
           returns ! (look ! 14 refl) $ forget ! 4 refl $ forget ! 6 refl $ forget ! 8 refl $ forget ! 10 refl $ forget ! 12 refl $ forget ! 14 refl $
-          move ! (14 ∷ 15 ∷ []) $ free1 ! $ move ! (12 ∷ 13 ∷ []) $ free1 ! $ move ! (10 ∷ 11 ∷ []) $ free1 ! $ move ! (8 ∷ 9 ∷ []) $ free1 ! $ move ! (6 ∷ 7 ∷ []) $ free1 ! $ move ! (4 ∷ 5 ∷ []) $ free1 ! $ move ! (2 ∷ 3 ∷ []) $ free1 ! $ free1 ! $ free0 ! $
+          move ! (14 ∷ 15 ∷ []) $ free1 ! $ move ! (12 ∷ 13 ∷ []) $ free1 ! $ move ! (10 ∷ 11 ∷ []) $ free1 ! $ move ! (8 ∷ 9 ∷ []) $ free1 ! $
+          move ! (6 ∷ 7 ∷ []) $ free1 ! $ move ! (4 ∷ 5 ∷ []) $ free1 ! $ move ! (2 ∷ 3 ∷ []) $ free1 ! $ free1 ! $ free0 ! $
           -- [the token; the borrow; the slice's fact; res; what _2 owns]
           move ! (3 ∷ 1 ∷ []) $ fjoin ! $ move ! (2 ∷ 0 ∷ []) $ fjoin ! $ nothing ! $ keep ! (2 ∷ 0 ∷ 1 ∷ []) $ join ! $
           by ! (exits (s .r .first) (all-passed ys s (nltb→le (s .i) (length ys) past)) first-fits))
@@ -242,7 +272,8 @@ module _ {M : Type 1} (𝓤 : URA M) (H : Heap 𝓤) (A : Atoms 𝓤) (W : Given
         pass1 ! (init ! 12 refl (tt, (tt, (record { fits = room .0 }, tt)))) $ pass0 ! $
         use0 W (raw (Empty 𝓤 H A mem run .pre to-empty)) asks-empty $
         calls-at ! (fmOf 𝓤 H (W .laws) 𝓣) (Empty 𝓤 H A mem run) known-empty to-empty (no-more !) (λ u.
-        use1 W (later (some (λ (r : Scan). (‵ ftrue ⊛ ‵ (S.the-row .own r (u ∷ []))) ⊛ raw (ensured 𝓤 H A empty.ended (empty.clauses 𝓤 H A mem run) tt tt tt r)))) (id⊢ 𝓤 _) $ await ! tt $ pick ! (λ r.
+        use1 W (later (some (λ (r : Scan). (‵ ftrue ⊛ ‵ (S.the-row .own r (u ∷ [])))
+        ⊛ raw (ensured 𝓤 H A empty.ended (empty.clauses 𝓤 H A mem run) tt tt tt r)))) (id⊢ 𝓤 _) $ await ! tt $ pick ! (λ r.
         split ! $ move ! (1 ∷ []) $ use1 W (raw (fact 𝓤 (r ≡ emptyScan))) (empty-said 𝓤 H A mem run r) $ heard ! (r ≡ emptyScan) (λ e. split ! $ drop ! $
         peeks ! S.the-row (Is S.the-row) (shows 𝓤 H A S.the-row) r (u ∷ []) (λ is.
         -- [what _2 owns; _7; …; _0; …; the token; the slice]
@@ -256,13 +287,17 @@ module _ {M : Type 1} (𝓤 : URA M) (H : Heap 𝓤) (A : Atoms 𝓤) (W : Given
 module _ {M : Type 1} (𝓤 : URA M) (H : Heap 𝓤) (A : Atoms 𝓤) (W : Given 𝓤 H A) (mem : Memory → SProp 𝓤) (run : Routine → Fun 𝓤) (𝓣 : Tables 𝓤 H) where
   first-overlap-walks : Triple 𝓤 (𝓣 .C #runs·empty-scan) (Empty 𝓤 H A mem run) → Triple 𝓤 (𝓣 .C #runs·scan-run) (Step 𝓤 H A mem run)
       → Walks 𝓤 H A over.ended stayed (WpFn 𝓤 H (𝓣 .C) (𝓣 .Λ) code.function) (over.clauses 𝓤 H A mem run)
-  first-overlap-walks known-empty known-step = walked 𝓤 H A over.ended stayed (over.clauses 𝓤 H A mem run) (WpFn 𝓤 H (𝓣 .C) (𝓣 .Λ) code.function) (λ κs. (slice-vals, tt)) (λ κs. (shr-slice-tells (named 0) (κs .0) R.the-row, tt))
+  first-overlap-walks known-empty known-step =
+      walked 𝓤 H A over.ended stayed (over.clauses 𝓤 H A mem run) (WpFn 𝓤 H (𝓣 .C) (𝓣 .Λ) code.function) (λ κs. (slice-vals, tt))
+      (λ κs. (shr-slice-tells (named 0) (κs .0) R.the-row, tt))
       (λ κs qs bounds a g are. via 𝓤 _ (fst∗ 𝓤 _ (emp 𝓤))
       (walk 𝓤 H A W mem run (κs .0) (qs .0) (a .0 .ptr .0) (a .0 .ptr .1) (a .0 .name) (a .0 .now) 𝓣 known-empty known-step (are .0 .0 .1)))
 
   first-overlap-meets : Triple 𝓤 (𝓣 .C #runs·empty-scan) (Empty 𝓤 H A mem run) → Triple 𝓤 (𝓣 .C #runs·scan-run) (Step 𝓤 H A mem run)
       → Meets 𝓤 H A over.signature (WpFn 𝓤 H (𝓣 .C) (𝓣 .Λ) code.function) (over.spec 𝓤 H A mem run)
-  first-overlap-meets known-empty known-step = walk-meets 𝓤 H A over.ended stayed W (goes-none-slice 𝓤 H A W 1 (0 ∷ []) tt (plain (λ _. R.the-row)) yes, tt) (over.clauses 𝓤 H A mem run) (WpFn 𝓤 H (𝓣 .C) (𝓣 .Λ) code.function) (WpFn-mono 𝓤 H (W .laws) 𝓣 code.function) (first-overlap-walks known-empty known-step)
+  first-overlap-meets known-empty known-step =
+      walk-meets 𝓤 H A over.ended stayed W (goes-none-slice 𝓤 H A W 1 (0 ∷ []) tt (plain (λ _. R.the-row)) yes, tt) (over.clauses 𝓤 H A mem run)
+      (WpFn 𝓤 H (𝓣 .C) (𝓣 .Λ) code.function) (WpFn-mono 𝓤 H (W .laws) 𝓣 code.function) (first-overlap-walks known-empty known-step)
 
 pub first-overlap-spec : {M : Type 1} → stated.statement M
 unfolding code.routine tablesOf

@@ -1,5 +1,5 @@
--- `scan_run` meets its contract: where there is no room nothing changes, and else the run is compared with those passed, stored and counted. The loop's invariant:
--- no run before `other` overlaps r.
+-- `scan_run` meets its contract: where there is no room nothing changes, and else the run is compared with those passed, stored and counted.
+-- The loop's invariant: no run before `other` overlaps r.
 use Prim.Native.Nat.{ℕ, _≤_, _<_, _-_}
 use mathlib.Core.Path.{_≡_, sym, _∙_}
 use mathlib.Core.Bool.{true, false}
@@ -63,7 +63,8 @@ returns-2 c =
     let a = c .before .before .before .before .args in
     let l = c .before .before .loop in
     let overlaps : l .other < a .t1 .n → overlapsAt (a .t1 .runs) (a .r) (l .other) ≡ true = λ h.
-    ⊎-elim (λ w. absurd (omega arith)) (λ w. sym (w .2 .ensures) ∙ w .3 .taken) (c .before .loop-test .came) in
+    ⊎-elim {C = overlapsAt (a .t1 .runs) (a .r) (l .other) ≡ true} (λ w. absurd (omega arith)) (λ w. sym (w .2 .ensures) ∙ w .3 .taken)
+    (c .before .loop-test .came) in
     let e : l .other ≡ firstBelow (a .t1 .n) (overlapsAt (a .t1 .runs) (a .r)) = first-passed _ _ _ (l .inv .0) overlaps (l .inv .1) in
     simp (lt-ltb _ _ (c .before .before .before .if1 .left)) (cc (c .lowest .ensures, e))
 
