@@ -51,40 +51,41 @@ module _ (l : List Run) (n f : ℕ) (F : FirstOverlap l n f) where
         ]
   ]
 
-  -- the same f, where it is below n and no `other` is below it
-  keeps : f < n → f ≤ other → FirstOverlap l (n + 1) f
-  keeps fl fh = record {
+  -- the same f, where it is below n and `other` is not below it
+  first-stays : f < n → f ≤ other → FirstOverlap l (n + 1) f
+  first-stays fl fh = record {
     within = omega arith;
     before = clear f (omega arith) (λ i ig il. (ig, omega arith)) (λ t. omega arith);
     found = λ _. let w = F .found fl in (w .0, omega (arith, w .1), w .2, w .3);
   }
 
-  -- the run at n overlaps one below f
-  moves : other < n → other < f → FirstOverlap l (n + 1) other
-  moves hl hf = record {
+  -- the run at n overlaps one before f
+  first-falls : other < n → other < f → FirstOverlap l (n + 1) other
+  first-falls hl hf = record {
     within = omega arith;
     before = clear other (omega arith) (λ i ig il. (omega arith, ig)) (λ t. omega arith);
     found = λ _. (n, omega arith, omega arith, first-holds n (overlapsAt l (getD l n noRun)) hl);
   }
 
-  -- no two overlap
-  none : n ≤ other → n ≤ f → FirstOverlap l (n + 1) (n + 1)
-  none hl fl = record {
+  -- no two of the first n + 1 overlap
+  none-overlap : n ≤ other → n ≤ f → FirstOverlap l (n + 1) (n + 1)
+  none-overlap hl fl = record {
     within = omega arith;
     before = clear (n + 1) (omega arith) (λ i ig il. (omega arith, omega arith)) (λ t. hl);
     found = λ m. absurd (omega arith);
   }
 
-  one-more : FirstOverlap l (n + 1) (lowestWith f n other)
+  -- the run at n is passed too
+  first-more : FirstOverlap l (n + 1) (lowestWith f n other)
   unfolding lowestWith
-  one-more =
+  first-more =
       by-order other n
       (λ hl. by-order other f
-      (λ hf. rw (lt-ltb other n hl, lt-ltb other f hf) (moves hl hf))
-      (λ fh. rw (lt-ltb other n hl, le-ltb other f fh) (keeps (omega arith) fh)))
+      (λ hf. rw (lt-ltb other n hl, lt-ltb other f hf) (first-falls hl hf))
+      (λ fh. rw (lt-ltb other n hl, le-ltb other f fh) (first-stays (omega arith) fh)))
       (λ hl. by-order f n
-      (λ fl. rw (le-ltb other n hl, lt-ltb f n fl) (keeps fl (omega arith)))
-      (λ fl. rw (le-ltb other n hl, le-ltb f n fl) (none hl fl)))
+      (λ fl. rw (le-ltb other n hl, lt-ltb f n fl) (first-stays fl (omega arith)))
+      (λ fl. rw (le-ltb other n hl, le-ltb f n fl) (none-overlap hl fl)))
 
 -- ---- what a scan has passed
 
@@ -95,6 +96,7 @@ pub record Passed (l : List Run) (k : ℕ) (s : Scan) : Type 0 where
   pub long : length (s .runs) ≡ maxTasks
   pub first : FirstOverlap l k (s .first)
 
+-- at the start
 pub passed-none : (l : List Run) → Passed l 0 emptyScan
 passed-none l = record {
   count = refl;
@@ -111,19 +113,21 @@ module _ (l : List Run) (k : ℕ) (s : Scan) (p : Passed l k s) where
       (first-cong k (overlapsAt (s .runs) (getD l k noRun)) (overlapsAt l (getD l k noRun))
       (λ i m. ap (λ (x : Run). overlapping x (getD l k noRun)) (p .stored i m)))
 
+  -- the run at k is stored behind those before it
   stored-more : k < maxTasks → (i : ℕ) → i < k + 1 → getD (set (s .runs) (s .n) (getD l k noRun)) i noRun ≡ getD l i noRun
   stored-more few i m = elim (ℕ-discrete i k) [
     | yes q ↦ rw (q, p .count) (getD-set-same (s .runs) k (getD l k noRun) noRun (omega (arith, p .long)))
     | no q ↦ rw (p .count) (getD-set-other (s .runs) k i (getD l k noRun) noRun q ∙ p .stored i (omega arith))
   ]
 
+  -- one run more is passed
   pub passed-more : k < maxTasks → Passed l (k + 1) (scanRun s (getD l k noRun))
   unfolding scanRun
   passed-more few = rw (lt-ltb (s .n) maxTasks (omega (arith, p .count))) (record {
     count = omega (arith, p .count);
     stored = stored-more few;
     long = length-set (s .runs) (s .n) (getD l k noRun) ∙ p .long;
-    first = rw (same-other, p .count) (one-more l k (s .first) (p .first));
+    first = rw (same-other, p .count) (first-more l k (s .first) (p .first));
   })
 
 -- ---- a part of a list

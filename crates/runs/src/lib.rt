@@ -85,8 +85,8 @@ fn scan_run(mut s: Scan, r: Run) -> Scan
     s
 }
 
-// The thin function: it walks the lent runs, and leaves the work to `scan_run`. Of a slice of at most 64 runs it gives the lowest
-// index whose run overlaps another's, or the length where no two overlap.
+// The thin function: it walks the lent runs, and leaves the work to `scan_run`. Of at most `Board::MAX_TASKS` runs it gives the
+// lowest index whose run overlaps another's, or the length where no two overlap.
 pub fn first_overlap(runs: &[Run]) -> usize
     ensures { λ r. ⌜ (length (now (runs .entry)) ≤ maxTasks → FirstOverlap (now (runs .entry)) (length (now (runs .entry))) r) ⌝ }
 {

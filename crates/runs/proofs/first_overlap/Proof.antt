@@ -93,16 +93,16 @@ record State (ys : List Run) : Type 0 where
   r : Scan
   u : Val
   is : Is S.the-row r (u ∷ [])
-  so : length ys ≤ maxTasks → Passed ys i r
+  passed : length ys ≤ maxTasks → Passed ys i r
 
--- one run more is passed
+-- after the step, one run more is passed
 goes-on : (ys : List Run) (s : State ys) (r′ : Scan) → s .i < length ys → r′ ≡ scanRun (s .r) (getD ys (s .i) noRun) → length ys ≤ maxTasks
     → Passed ys (s .i + 1) r′
-goes-on ys s r′ l e few = rw e (passed-more ys (s .i) (s .r) (s .so few) (omega arith))
+goes-on ys s r′ l e few = rw e (passed-more ys (s .i) (s .r) (s .passed few) (omega arith))
 
 -- every run is passed
 all-passed : (ys : List Run) (s : State ys) → length ys ≤ s .i → length ys ≤ maxTasks → FirstOverlap ys (length ys) (s .r .first)
-all-passed ys s h few = subst (λ (k : ℕ). FirstOverlap ys k (s .r .first)) (le-antisymm (s .within) h) (s .so few .first)
+all-passed ys s h few = subst (λ (k : ℕ). FirstOverlap ys k (s .r .first)) (le-antisymm (s .within) h) (s .passed few .first)
 
 module _ {M : Type 1} (𝓤 : URA M) (H : Heap 𝓤) (A : Atoms 𝓤) (mem : Memory → SProp 𝓤) (run : Routine → Fun 𝓤) where
   -- the contracts that the proof cites
@@ -239,7 +239,7 @@ module _ {M : Type 1} (𝓤 : URA M) (H : Heap 𝓤) (A : Atoms 𝓤) (W : Given
           (store ! 11 refl (tt, record { fits = more l })) $
           forget ! 3 refl $ forget ! 5 refl $ forget ! 7 refl $ forget ! 9 refl $
           move ! (3 ∷ 4 ∷ 5 ∷ 6 ∷ 7 ∷ 8 ∷ 9 ∷ 10 ∷ 11 ∷ 12 ∷ 13 ∷ 14 ∷ 15 ∷ 16 ∷ 17 ∷ 18 ∷ 1 ∷ 2 ∷ 19 ∷ 20 ∷ 0 ∷ []) $
-          again ! Nearer At s (record { i = s .i + 1; within = add-one-le l; r = r; u = u; is = is; so = goes-on ys s r l e })
+          again ! Nearer At s (record { i = s .i + 1; within = add-one-le l; r = r; u = u; is = is; passed = goes-on ys s r l e })
           (add-one-dec (length ys) (s .i) l))))))))
           (λ past. exec ! C Λ En t-4 (atRet En Post) $
           rewrite ! 10 (λ (z : Val). ‵ (fat fullShare S′.mir l₂ 0 z)) (ap only (LL.tells S.the-type S′.the-laws (s .r) _ (s .is))) refl $
@@ -282,7 +282,7 @@ module _ {M : Type 1} (𝓤 : URA M) (H : Heap 𝓤) (A : Atoms 𝓤) (W : Given
         move ! (18 ∷ []) $ fsplit ! $ fsplit ! $ move ! (1 ∷ []) $ fsplit ! $ move ! (21 ∷ []) $ split ! $
         -- [the token; true; res; the borrow; the slice's fact; true; what _2 owns; _7; …; _0; …]
         keep ! (7 ∷ 8 ∷ 9 ∷ 10 ∷ 11 ∷ 12 ∷ 13 ∷ 14 ∷ 15 ∷ 16 ∷ 17 ∷ 18 ∷ 19 ∷ 20 ∷ 21 ∷ 22 ∷ 0 ∷ 3 ∷ 4 ∷ 2 ∷ 6 ∷ []) $
-        all-turns l₀ l₁ l₂ l₃ l₄ l₅ l₆ l₇ (record { i = 0; within = zero-le; r = r; u = u; is = is; so = λ few. rw e (passed-none ys) })))))))))))))
+        all-turns l₀ l₁ l₂ l₃ l₄ l₅ l₆ l₇ (record { i = 0; within = zero-le; r = r; u = u; is = is; passed = λ few. rw e (passed-none ys) })))))))))))))
 
 module _ {M : Type 1} (𝓤 : URA M) (H : Heap 𝓤) (A : Atoms 𝓤) (W : Given 𝓤 H A) (mem : Memory → SProp 𝓤) (run : Routine → Fun 𝓤) (𝓣 : Tables 𝓤 H) where
   first-overlap-walks : Triple 𝓤 (𝓣 .C #runs·empty-scan) (Empty 𝓤 H A mem run) → Triple 𝓤 (𝓣 .C #runs·scan-run) (Step 𝓤 H A mem run)
