@@ -5,7 +5,7 @@
  *   - Each pointer has as many bytes behind it as its length says, readable, and writable for `line` and `out`. With length 0 it may be NULL.
  *   - `result` is an array of the length shown, and never NULL. What it held before plays no part.
  *   - `line`, `out` and `result` overlap neither a text nor each other. The two texts may overlap, or be one.
- *   - About FRAMES_STACK bytes of stack are left.
+ *   - FRAMES_STACK bytes of stack are left.
  * A call uses no heap, no global data and no file, keeps nothing, and always returns; so calls may run at the same time on several threads. */
 #ifndef FRAMES_H
 #define FRAMES_H
@@ -20,8 +20,9 @@ extern "C" {
 /* The longest text that is read, in bytes. No timetable of a planner is longer, so a buffer of this length is never too short. */
 #define FRAMES_MAX_TEXT 32768
 
-/* The stack that a call needs, in bytes, rounded up; tests/calls.c measures it. */
-#define FRAMES_STACK 65536
+/* Stack that is enough for any call, in bytes. On the largest sheet (64 tasks, 256 files) a planner used 15 KB and the marker, with every file
+ * moved, 20 KB: tests/calls.c runs each call on a painted stack, and fails if one uses more than this. */
+#define FRAMES_STACK 32768
 
 /* The numbers that a call answers. The place is what stands in brackets; lines and tasks are counted from 1. The marker answers 0, 1 to 4 and 11
  * to 18, a planner 0, 1 to 4, 21 and 31. */

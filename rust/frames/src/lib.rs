@@ -5,7 +5,7 @@
 //!
 //! What include/frames.h asks of a caller holds of every call here: slices and mutable slices do not overlap, an empty slice is a pointer
 //! with length 0, and the results are arrays of this crate. Calls use no heap in the library and no global data, so they may run on
-//! several threads at once; each needs up to 64 KB of stack.
+//! several threads at once; each needs at most 32 KB of stack.
 //!
 //! ```
 //! use frames::{mark, plan, Planner, Verdict};
@@ -229,11 +229,7 @@ mod tests {
         assert_eq!((plan.timetable, plan.trials), (vec![7, 8], 3));
         for number in LISTED {
             let refusal = Refusal::from_numbers(number, 2).unwrap();
-            assert_eq!(
-                planned(answer(number, 2), vec![]),
-                Err(refusal),
-                "{number}"
-            );
+            assert_eq!(planned(answer(number, 2), vec![]), Err(refusal), "{number}");
         }
     }
 
