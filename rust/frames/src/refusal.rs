@@ -59,7 +59,7 @@ impl Refusal {
         })
     }
 
-    /// Document 01's number and place.
+    /// Its number and place.
     pub fn numbers(self) -> (u64, u64) {
         match self {
             SheetTooLong => (1, 0),
