@@ -11,7 +11,7 @@ use Rattle.rules.specs.Count.{sumBelow}
 use Rattle.rules.specs.Model.{blue, red, Colour, Instance, taskCount}
 use Rattle.rules.specs.Scheduling.{Planner, memHeft, memMinMin, Partial, ready, earliestStart, finishOn, weight, Choice, nothing, choose, earlier}
 use Rattle.rules.specs.Scheduling.{tried, bothColours, byWeight, orRest, firstThatFits, earliestBelow, roundOf}
-use Rattle.rules.specs.Promises.{triedBy, TrialLaw}
+use Rattle.rules.specs.RoundTrials.{triedBy, TrialLaw}
 use Rattle.rules.proofs.Tests.{split, by-order, is-false, and-true, and-no, or-yes}
 use Rattle.rules.proofs.WeightLaws.{Ahead, Sorted, Once, sumOver, byWeight-sorted, byWeight-once, byWeight-sum}
 
