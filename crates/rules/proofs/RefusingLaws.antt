@@ -116,7 +116,7 @@ never-succeeds R answer never exact = on (replicate maxText 0) (long-enough maxT
 -- ---- a marker that has one refusal
 
 -- accepted, or refused by the one number and place
-abbrev OneRefusal : ℕ → ℕ → Verdict → Type 0
+abbrev pub OneRefusal : ℕ → ℕ → Verdict → Type 0
 OneRefusal n k v = ((c : Claim) × (v ≡ acceptedWith c)) ⊎ (v ≡ refusedBy n k)
 
 one-number : (n k m : ℕ) (v : Verdict) → OneRefusal n k v → v .number ≡ suc m → n ≡ suc m

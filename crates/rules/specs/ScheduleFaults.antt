@@ -19,7 +19,7 @@ pub data DueLine : Type 0 where
   claim : DueLine
   end : DueLine
 
--- what was read so far: the runs of the first tasks, then the moves that the first files make; at last the claim too
+-- what was read so far. Before the claim: the runs of the first tasks; then, of the first files, the moves of those that move. Behind it: all
 pub data SoFar : Type 0 where
   before : List Run → ℕ → SoFar
   behind : SoFar
