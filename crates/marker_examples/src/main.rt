@@ -1,6 +1,6 @@
 // Timetables marked: examples e to m of document 01, papers that neither planner would make, and each refusal.
-use libc::STDOUT_FILENO;
 use console::print_number;
+use libc::STDOUT_FILENO;
 
 // Prints what is shown, the verdict, and the line at fault.
 fn show<'a>(what: &'a [u8], sheet: &'a [u8], paper: &'a [u8]) {

@@ -1,8 +1,8 @@
 // Both planners on the sheets of data/, and a buffer one byte too short.
-use frames::Answer;
-use libc::STDOUT_FILENO;
 use console::print_answer;
 use console::print_number;
+use frames::Answer;
+use libc::STDOUT_FILENO;
 
 // What is shown, and the answer's numbers.
 fn print_head(name: &[u8], planner: &[u8], a: Answer) {
