@@ -6,8 +6,8 @@ use mathlib.Core.List.{List, [], _∷_, _++_, append-assoc, append-nil}
 use native.Mathlib.Nat.{le-of-suc-le-suc}
 use native.Mathlib.Omega.{arith}
 use native.Mathlib.Numerals.{add-one}
-use borrow.Author.Tests.{le-leb, ltb-true, eq-eqb, ne-eqb}
-use lib.Dec.{ltb, leb, eqb}
+use borrow.Author.Tests.{le-leb, ltb-true, ne-eqb}
+use lib.Dec.{ltb, eqb}
 use lib.ListN.{length, getD, take, drop, set, length-append, length-drop, length-set, List·getD-append}
 use lib.Seq.{take-suc, take-all, length-take-le}
 use Rattle.io.specs.Digits.{glyph, digits}
@@ -15,7 +15,7 @@ use Rattle.io.specs.Counts.{Counts}
 use Rattle.rules.proofs.Tests.{split}
 use Rattle.text.specs.Wrote.{Wrote}
 use Rattle.text.proofs.PartLaws.{tail-part}
-use Rattle.text.proofs.WroteLaws.{wrote-byte, wrote-none, wrote-length, wrote-within, wrote-room, wrote-part}
+use Rattle.text.proofs.WroteLaws.{wrote-byte, wrote-none, wrote-length, wrote-within, wrote-part}
 use Rattle.console.specs.Escaped.{printable, escapedByte, escaped}
 
 -- ---- how many
@@ -97,7 +97,8 @@ module _ (old : List ℕ) (room : 4 ≤ length old) where
   two-stored : (a b : ℕ) → Wrote (a ∷ b ∷ []) 2 old (set (set old 0 a) 1 b)
   two-stored a b = wrote-byte (one-stored a) b (omega arith)
 
-  pub four-stored : (a b : ℕ) {c d c′ d′ : ℕ} → c ≡ c′ → d ≡ d′ → Wrote (a ∷ b ∷ c′ ∷ d′ ∷ []) 4 old (set (set (set (set old 0 a) 1 b) 2 c) 3 d)
+  pub four-stored : (a b : ℕ) {c d c′ d′ : ℕ} → c ≡ c′ → d ≡ d′
+      → Wrote (a ∷ b ∷ c′ ∷ d′ ∷ []) 4 old (set (set (set (set old 0 a) 1 b) 2 c) 3 d)
   four-stored a b {c′ = c} {d′ = d} p q = rw (p, q) (wrote-byte (wrote-byte (two-stored a b) c (omega arith)) d (omega arith))
 
   pub wrote-backslash : (b : ℕ) → b ≡ 92 → Wrote (escapedByte b) 2 old (set (set old 0 92) 1 92)
@@ -106,7 +107,8 @@ module _ (old : List ℕ) (room : 4 ≤ length old) where
   pub wrote-printable : (b : ℕ) → printable b ≡ true → (b ≡ 92 → ⊥) → Wrote (escapedByte b) 1 old (set old 0 b)
   wrote-printable b p n = rw (p, ne-eqb b 92 n) (one-stored b)
 
-pub wrote-hex : (b : ℕ) → printable b ≡ false → {r : ℕ} {old new : List ℕ} → Wrote (92 ∷ 120 ∷ digits 16 2 b) r old new → Wrote (escapedByte b) r old new
+pub wrote-hex : (b : ℕ) → printable b ≡ false → {r : ℕ} {old new : List ℕ} → Wrote (92 ∷ 120 ∷ digits 16 2 b) r old new
+    → Wrote (escapedByte b) r old new
 wrote-hex b p w = rw p w
 
 -- ---- a text's first i bytes are written, up to `at`

@@ -9,7 +9,6 @@ use Rattle.rules.specs.Scheduling.{Planner}
 use Rattle.rules.specs.Text.{Fault, tooLong, malformed, outOfRange, undue, inSheet, faultNumber}
 use Rattle.rules.specs.InstanceText.{InstanceRead, refused, accepted, readInstance}
 use Rattle.rules.specs.Calls.{plan}
-use Rattle.rules.specs.Promises.{PlansShort}
 use Rattle.rules.proofs.SheetLaws.{sheetExact}
 use Rattle.rules.proofs.PlannerLaws.{sheetRefused, plannerExact, plansShort}
 use Rattle.plan_text.specs.declared.Answer.{Answer}

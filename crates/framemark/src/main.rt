@@ -21,7 +21,8 @@ fn print_marks<'a>(sheet: &'a [u8], paper: &'a [u8]) -> bool {
     write_escaped(STDOUT_FILENO, line) && io::write_all(STDOUT_FILENO, b"\n")
 }
 
-// Prints a paper's name and its verdict on one line. Returns whether all was written.
+// Prints a paper's name and its verdict on one line: one line for each paper, also where it is the sheet that is refused.
+// Returns whether all was written.
 fn print_named_marks<'a>(name: &'a [u8], sheet: &'a [u8], paper: &'a [u8]) -> bool {
     write_escaped(STDOUT_FILENO, name)
         && io::write_all(STDOUT_FILENO, b" ")

@@ -16,19 +16,26 @@ same-length : tie.Need-same-length
 same-length c = search needs
 
 returns : tie.Need-returns
-returns c = wrote-hex (c .before .before .before .before .before .before .before .args .b) (sym (c .before .before .before .before .before .is-printable .ensures) ∙ not-true _ (c .before .before .before .before .if1 .taken)) (c .before .before .escape-hex .ensures)
+returns c =
+    let h = c .before .before in
+    let t = h .before .before in
+    wrote-hex (t .before .before .before .args .b) (sym (t .before .is-printable .ensures) ∙ not-true _ (t .if1 .taken)) (h .escape-hex .ensures)
 
 slice-write-out : tie.Need-slice-write-out
 slice-write-out c = search needs
 
 slice-write-out-2 : tie.Need-slice-write-out-2
-slice-write-out-2 c = second-room (c .before .before .before .before .args .out .now) (c .before .before .before .before .pre) 92
+slice-write-out-2 c =
+    let s = c .before .before .before .before in
+    second-room (s .args .out .now) (s .pre) 92
 
 same-length-2 : tie.Need-same-length-2
 same-length-2 c = search needs
 
 returns-2 : tie.Need-returns-2
-returns-2 c = wrote-backslash (c .before .before .before .before .args .out .now) (c .before .before .before .before .pre) (c .before .before .before .before .args .b) (c .if2 .taken)
+returns-2 c =
+    let s = c .before .before .before .before in
+    wrote-backslash (s .args .out .now) (s .pre) (s .args .b) (c .if2 .taken)
 
 slice-write-out-3 : tie.Need-slice-write-out-3
 slice-write-out-3 c = search needs
@@ -37,7 +44,10 @@ same-length-3 : tie.Need-same-length-3
 same-length-3 c = search needs
 
 returns-3 : tie.Need-returns-3
-returns-3 c = wrote-printable (c .before .before .before .before .args .out .now) (c .before .before .before .before .pre) (c .before .before .before .before .args .b) (sym (c .before .before .is-printable .ensures) ∙ not-false _ (c .before .if1 .left)) (c .if2 .left)
+returns-3 c =
+    let s = c .before .before .before .before in
+    let p = sym (c .before .before .is-printable .ensures) ∙ not-false _ (c .before .if1 .left) in
+    wrote-printable (s .args .out .now) (s .pre) (s .args .b) p (c .if2 .left)
 
 pub escape-byte-spec : {M : Type 1} → statement M
 escape-byte-spec =

@@ -26,7 +26,9 @@ same-length : tie.Need-same-length
 same-length c = search needs
 
 returns : tie.Need-returns
-returns c = four-stored (c .before .before .before .args .out .now) (c .before .before .before .pre) 92 120 (c .before .hex-digit .ensures) (c .hex-digit2 .ensures)
+returns c =
+    let s = c .before .before .before in
+    four-stored (s .args .out .now) (s .pre) 92 120 (c .before .hex-digit .ensures) (c .hex-digit2 .ensures)
 
 pub escape-hex-spec : {M : Type 1} → statement M
 escape-hex-spec =

@@ -48,14 +48,16 @@ same-length-2 c = search needs
 returns-2 : tie.Need-returns-2 Inv-loop μ-loop
 returns-2 c =
     let s = c .before .before .before .before .before .before in
-    let l = s .before .before .before in
-    read-counts (l .loop .buf) (s .read-some .last .1 .0) (l .loop .n) (l .loop .inv .0) (s .read-some .kept .1 .0)
+    let l = s .before .before .before .loop in
+    let r = s .read-some in
+    read-counts (l .buf) (r .last .1 .0) (l .n) (l .inv .0) (r .kept .1 .0)
 
 add-n : tie.Need-add-n Inv-loop μ-loop
 add-n c =
     let s = c .before .before .before .before .before .before in
-    let l = s .before .before .before in
-    omega (arith, read-within (l .loop .buf) (s .read-some .last .1 .0) (l .loop .n) (l .loop .inv .0) (s .read-some .kept .1 .0) _ _ (s .read-some .ensures) (c .before .before .more .given .1))
+    let l = s .before .before .before .loop in
+    let r = s .read-some in
+    omega (arith, read-within (l .buf) (r .last .1 .0) (l .n) (l .inv .0) (r .kept .1 .0) (r .result) _ (r .ensures) (c .before .before .more .given .1))
 
 loop-less : tie.Need-loop-less Inv-loop μ-loop
 loop-less c = search needs
@@ -63,9 +65,10 @@ loop-less c = search needs
 loop-again : tie.Need-loop-again Inv-loop μ-loop
 loop-again c =
     let s = c .before .before .before .before .before .before in
-    let l = s .before .before .before in
-    let e = read-length (l .loop .buf) (s .read-some .last .1 .0) (l .loop .n) (l .loop .inv .0) (s .read-some .kept .1 .0) in
-    let w = read-within (l .loop .buf) (s .read-some .last .1 .0) (l .loop .n) (l .loop .inv .0) (s .read-some .kept .1 .0) _ _ (s .read-some .ensures) (c .before .before .more .given .1) in
+    let l = s .before .before .before .loop in
+    let r = s .read-some in
+    let e = read-length (l .buf) (r .last .1 .0) (l .n) (l .inv .0) (r .kept .1 .0) in
+    let w = read-within (l .buf) (r .last .1 .0) (l .n) (l .inv .0) (r .kept .1 .0) (r .result) _ (r .ensures) (c .before .before .more .given .1) in
     (omega arith, omega arith)
 
 same-length-3 : tie.Need-same-length-3 Inv-loop μ-loop
