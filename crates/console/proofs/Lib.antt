@@ -1,4 +1,4 @@
--- The laws that the proofs of this crate cite. Other crates cite `printable-plan` and `within-bytes`.
+-- The laws that the proofs of this crate cite. Other crates cite `long-enough` and `within-bytes`.
 pub mod EscapedLaws
-pub mod PrintableLaws
+pub mod LongEnoughLaws
 pub mod ReadLaws

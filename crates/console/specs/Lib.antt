@@ -1,3 +1,3 @@
 pub mod Escaped
-pub mod Printable
+pub mod LongEnough
 pub mod Within

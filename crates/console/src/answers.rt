@@ -1,5 +1,5 @@
 // Answers on standard output. Each function stops at the first write that fails, and returns whether all were made.
-ghost use Rattle.console.specs.Printable.{Printable};
+ghost use Rattle.console.specs.LongEnough.{LongEnough};
 use frames::Answer;
 use libc::STDOUT_FILENO;
 use validator::judgement::Verdict;
@@ -31,7 +31,7 @@ pub fn print_verdict(v: Verdict) -> bool {
 
 // The timetable that a planner wrote, or its refusal.
 pub fn print_answer(a: Answer, out: &[u8]) -> bool
-    requires { ⌜ Printable a (now out) ⌝ }
+    requires { ⌜ LongEnough a (now out) ⌝ }
 {
     if a.number != 0 {
         return print_refusal(a.number, a.place);

@@ -71,7 +71,7 @@ fn escape(text: &[u8], out: &mut [u8]) -> usize
     at
 }
 
-// Writes a part of a text, escaped, to a file; returns whether all of it was written.
+// Writes a part of a text, escaped, to a file; returns whether all of it was written. The buffer has 4 bytes for each of 1024.
 fn write_part(fd: i32, part: &[u8]) -> bool
     requires { ⌜ length (now part) ≤ 1024 ⌝ }
 {

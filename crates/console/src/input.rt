@@ -3,8 +3,8 @@ ghost use Rattle.console.specs.Within.{Within};
 use crate::errors::report;
 use crate::errors::report_argument;
 
-// What was read: so many bytes at the front of the buffer, or nothing of use, since a call failed. Where the bytes fill the buffer
-// the input may go on.
+// What was read: so many bytes at the front of the buffer, or nothing of use, since a call failed. Fewer bytes than the buffer has are
+// the whole input; where they fill the buffer the input may go on.
 pub enum Input {
     Bytes(usize),
     Failed,
@@ -22,7 +22,7 @@ fn read_some(fd: i32, buf: &mut [u8]) -> Input
     Input::Bytes(io::count(got, buf))
 }
 
-// Reads until the input ends, the buffer is full or a read fails.
+// Reads until a read finds the end of the input, the buffer is full or a read fails.
 fn read_all(fd: i32, buf: &mut [u8]) -> Input
     ensures { λ r. ⌜ Within r (now (buf .exit)) ⌝ }
 {

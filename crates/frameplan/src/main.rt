@@ -2,7 +2,7 @@
 ghost use Prim.Native.Nat.{_≤_};
 ghost use lib.ListN.{length};
 ghost use Rattle.rules.specs.Limits.{maxText};
-ghost use Rattle.console.specs.Printable.{Printable};
+ghost use Rattle.console.specs.LongEnough.{LongEnough};
 use console::Input;
 use console::print_answer;
 use console::read_descriptor;
@@ -40,10 +40,10 @@ fn planner_named() -> Named {
     Named::Unknown
 }
 
-// The planner on a sheet. A buffer as long as a text may be is never too short, by rules' promise `PlansShort`: number 31 does not occur.
+// The planner on a sheet. A buffer as long as a text may be is never too short (rules' promise `PlansShort`), so 31 is not its answer.
 fn plan(planner: Planner, sheet: &[u8], out: &mut [u8]) -> Answer
     requires { ⌜ maxText ≤ length (now out) ⌝ }
-    ensures { λ r. ⌜ Printable r (now (out .exit)) ⌝ }
+    ensures { λ r. ⌜ LongEnough r (now (out .exit)) ⌝ }
 {
     match planner {
         Planner::MemHeft => frames::mem_heft(sheet, out),

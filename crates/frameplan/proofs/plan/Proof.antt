@@ -1,7 +1,7 @@
--- `plan` meets its contract: either planner's answer can be printed.
+-- `plan` meets its contract: the buffer is long enough for either planner.
 use borrow.Author.Needs.{needs}
 use Rattle.rules.specs.Scheduling.{memHeft, memMinMin}
-use Rattle.console.proofs.PrintableLaws.{printable-plan}
+use Rattle.console.proofs.LongEnoughLaws.{long-enough}
 use Rattle.frameplan.proofs.plan.Statement.{statement}
 use Rattle.frameplan.proofs.plan.Tie as tie
 
@@ -24,7 +24,7 @@ returns : tie.Need-returns
 returns c =
     let s = c .before .before .before .before .before .before .before .before in
     let m = c .before .before .mem-heft in
-    printable-plan memHeft (s .args .sheet .now) (s .args .out .now) (m .last .1 .0) (m .result) (s .pre) (m .kept .1 .0) (m .ensures .0) (m .ensures .1)
+    long-enough memHeft (s .args .sheet .now) (s .args .out .now) (m .last .1 .0) (m .result) (s .pre) (m .kept .1 .0) (m .ensures .0) (m .ensures .1)
 
 same-length-2 : tie.Need-same-length-2
 same-length-2 c = search needs
@@ -33,7 +33,7 @@ returns-2 : tie.Need-returns-2
 returns-2 c =
     let s = c .before .before .before .before .before .before .before .before in
     let m = c .before .before .mem-min-min in
-    printable-plan memMinMin (s .args .sheet .now) (s .args .out .now) (m .last .1 .0) (m .result) (s .pre) (m .kept .1 .0) (m .ensures .0) (m .ensures .1)
+    long-enough memMinMin (s .args .sheet .now) (s .args .out .now) (m .last .1 .0) (m .result) (s .pre) (m .kept .1 .0) (m .ensures .0) (m .ensures .1)
 
 pub plan-spec : {M : Type 1} → statement M
 plan-spec =

@@ -1,7 +1,7 @@
 -- `show_mem_min_min` lends a buffer that holds the whole timetable on success.
 use native.Mathlib.Omega.{arith}
 use Rattle.rules.specs.Scheduling.{memMinMin}
-use Rattle.console.proofs.PrintableLaws.{printable-plan}
+use Rattle.console.proofs.LongEnoughLaws.{long-enough}
 use borrow.Author.Needs.{needs}
 use Rattle.planner_examples.proofs.show_mem_min_min.Statement.{statement}
 use Rattle.planner_examples.proofs.show_mem_min_min.Tie as tie
@@ -27,7 +27,7 @@ slice-aggregate-print-answer c = search needs
 print-answer-requires : tie.Need-print-answer-requires
 print-answer-requires c κs =
     let m = c .before .before .before .before .mem-min-min in
-    printable-plan memMinMin _ _ (m .last .1 .0) (m .result) (omega arith) (m .kept .1 .0) (m .ensures .0) (m .ensures .1)
+    long-enough memMinMin _ _ (m .last .1 .0) (m .result) (omega arith) (m .kept .1 .0) (m .ensures .0) (m .ensures .1)
 
 returns : tie.Need-returns
 returns c = search needs

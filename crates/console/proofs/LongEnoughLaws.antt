@@ -1,4 +1,4 @@
--- A planner's answer can be printed from a buffer that is as long as a text may be.
+-- A buffer as long as a text may be is long enough for a planner's answer.
 use Prim.Native.Nat.{ℕ, _≤_}
 use mathlib.Core.List.{List}
 use mathlib.Core.Path.{_≡_, refl, sym, ap, _∙_}
@@ -14,7 +14,7 @@ use Rattle.rules.proofs.PlannerLaws.{sheetRefused, plannerExact, plansShort}
 use Rattle.plan_text.specs.declared.Answer.{Answer}
 use Rattle.plan_text.specs.Planning.{asAnswer}
 use Rattle.frames.specs.Demands.{Planned}
-use Rattle.console.specs.Printable.{Printable}
+use Rattle.console.specs.LongEnough.{LongEnough}
 
 not-31 : (w : Fault) → faultNumber inSheet w ≡ 31 → ⊥
 not-31 tooLong e = omega arith
@@ -31,10 +31,10 @@ never-31 R sheet buffer h n = by-sheet (readInstance sheet) refl
         let t = plannerExact R sheet buffer I e .at31 (plan R sheet buffer .place) .0 (n, refl) in
         omega (arith, plansShort R I (sheetExact sheet I .0 e .0) (t .schedule) (t .trials) (t .notStuck), t .bytes, t .long)
 
-pub printable-plan : (R : Planner) (sheet buffer out : List ℕ) (a : Answer) → maxText ≤ length buffer → length out ≡ length buffer
-    → asAnswer a out ≡ plan R sheet buffer → Planned R sheet buffer (asAnswer a out) → Printable a out
-printable-plan R sheet buffer out a h l e p =
+pub long-enough : (R : Planner) (sheet buffer out : List ℕ) (a : Answer) → maxText ≤ length buffer → length out ≡ length buffer
+    → asAnswer a out ≡ plan R sheet buffer → Planned R sheet buffer (asAnswer a out) → LongEnough a out
+long-enough R sheet buffer out a h l e p =
     record {
       within = λ z. let w = p .readBack z .written in omega (arith, w .place, w .rule .fits, l);
-      long = λ n. never-31 R sheet buffer h (sym (ap (λ a. a .number) e) ∙ n);
+      notShort = λ n. never-31 R sheet buffer h (sym (ap (λ a. a .number) e) ∙ n);
     }
