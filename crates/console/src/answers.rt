@@ -1,8 +1,8 @@
 // Answers on standard output. Each function stops at the first write that fails, and returns whether all were made.
 ghost use Rattle.console.specs.LongEnough.{LongEnough};
 use frames::Answer;
+use frames::Verdict;
 use libc::STDOUT_FILENO;
-use validator::judgement::Verdict;
 
 // A space and a number.
 pub fn print_number(n: u64) -> bool {

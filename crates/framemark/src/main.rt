@@ -1,8 +1,3 @@
-<<<<<<< HEAD
-// framemark SHEET PAPER: marks the timetable of the file PAPER on the board sheet of the file SHEET.
-use console::print_number;
-use console::print_refusal;
-=======
 // framemark SHEET PAPER ..: marks the timetable of each file PAPER on the board sheet of the file SHEET.
 use console::Input;
 use console::print_verdict;
@@ -11,7 +6,6 @@ use console::read_file;
 use console::report;
 use console::write_escaped;
 use libc::STDERR_FILENO;
->>>>>>> programs
 use libc::STDOUT_FILENO;
 
 // Prints the verdict, and the line at fault under a refusal. Nothing is printed for a line at fault that is absent or empty.

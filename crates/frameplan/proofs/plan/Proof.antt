@@ -24,7 +24,7 @@ returns : tie.Need-returns
 returns c =
     let s = c .before .before .before .before .before .before .before .before in
     let m = c .before .before .mem-heft in
-    long-enough memHeft (s .args .sheet .now) (s .args .out .now) (m .last .1 .0) (m .result) (s .pre) (m .kept .1 .0) (m .ensures .0) (m .ensures .1)
+    long-enough memHeft (s .args .sheet .now) (s .args .out .now) (m .last .1 .0) (m .result) (s .pre) (m .kept .1 .0) (m .ensures .1)
 
 same-length-2 : tie.Need-same-length-2
 same-length-2 c = search needs
@@ -33,7 +33,7 @@ returns-2 : tie.Need-returns-2
 returns-2 c =
     let s = c .before .before .before .before .before .before .before .before in
     let m = c .before .before .mem-min-min in
-    long-enough memMinMin (s .args .sheet .now) (s .args .out .now) (m .last .1 .0) (m .result) (s .pre) (m .kept .1 .0) (m .ensures .0) (m .ensures .1)
+    long-enough memMinMin (s .args .sheet .now) (s .args .out .now) (m .last .1 .0) (m .result) (s .pre) (m .kept .1 .0) (m .ensures .1)
 
 pub plan-spec : {M : Type 1} → statement M
 plan-spec =
