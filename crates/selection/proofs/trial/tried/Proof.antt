@@ -1,6 +1,6 @@
 -- `tried` meets its contract.
 use native.Mathlib.Omega.{arith}
-use Rattle.starts.proofs.StartCases.{tick-of}
+use Rattle.starts.proofs.EarliestStartLaws.{tick-of}
 use Rattle.selection.proofs.ChoiceLaws.{tried-nowhere, tried-from}
 use borrow.Author.Needs.{needs}
 use Rattle.selection.proofs.trial.tried.Statement.{statement}

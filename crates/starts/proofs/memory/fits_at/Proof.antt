@@ -1,7 +1,7 @@
 -- `fits_at` meets its contract.
 use native.Mathlib.Omega.{arith}
 use Rattle.model.specs.Layout.{jobOf, entriesOf}
-use Rattle.starts.proofs.FreeLaws.{fits-at}
+use Rattle.starts.proofs.FreeMemoryLaws.{fits-at}
 use borrow.Author.Needs.{needs}
 use Rattle.starts.proofs.memory.fits_at.Statement.{statement}
 use Rattle.starts.proofs.memory.fits_at.Tie as tie

@@ -1,7 +1,7 @@
 -- `free_from` meets its contract.
 use native.Mathlib.Omega.{arith}
 use Rattle.model.specs.Layout.{jobOf, entriesOf, colourBy}
-use Rattle.starts.proofs.FreeLaws.{free-found, free-none}
+use Rattle.starts.proofs.FreeMemoryLaws.{free-found, free-none}
 use borrow.Author.Needs.{needs}
 use Rattle.starts.proofs.memory.free_from.Statement.{statement}
 use Rattle.starts.proofs.memory.free_from.Tie as tie

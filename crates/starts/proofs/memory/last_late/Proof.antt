@@ -6,7 +6,7 @@ use Rattle.rules.specs.Count.{maxBelow}
 use Rattle.model.specs.Layout.{jobOf, entriesOf, instanceFrom, scheduleFrom, colourBy, lastTick}
 use Rattle.model.proofs.StepLaws.{max-none, max-next}
 use Rattle.starts.specs.FreeMemory.{lateEnd}
-use Rattle.starts.proofs.FreeLaws.{late-total}
+use Rattle.starts.proofs.FreeMemoryLaws.{late-total}
 use borrow.Author.Needs.{needs}
 use Rattle.starts.proofs.memory.last_late.Statement.{statement}
 use Rattle.starts.proofs.memory.last_late.Tie as tie

@@ -2,7 +2,7 @@
 use native.Mathlib.Omega.{arith}
 use Rattle.model.specs.Layout.{jobOf, entriesOf, colourBy}
 use Rattle.model.specs.Holds.{asHold}
-use Rattle.starts.proofs.FreeLaws.{end-settles, late-none, late-fits, late-found}
+use Rattle.starts.proofs.FreeMemoryLaws.{end-settles, late-none, late-fits, late-found}
 use borrow.Author.Needs.{needs}
 use Rattle.starts.proofs.memory.late_end.Statement.{statement}
 use Rattle.starts.proofs.memory.late_end.Tie as tie

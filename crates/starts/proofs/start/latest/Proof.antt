@@ -1,6 +1,6 @@
 -- `latest` meets its contract.
 use native.Mathlib.Omega.{arith}
-use Rattle.starts.proofs.StartCases.{tick-of, latest-first, latest-second, latest-both}
+use Rattle.starts.proofs.EarliestStartLaws.{tick-of, latest-first, latest-second, latest-both}
 use borrow.Author.Needs.{needs}
 use Rattle.starts.proofs.start.latest.Statement.{statement}
 use Rattle.starts.proofs.start.latest.Tie as tie

@@ -5,7 +5,7 @@ use native.Mathlib.Omega.{arith}
 use lib.ListN.{getD}
 use Rattle.rules.specs.Count.{minUpTo}
 use Rattle.model.specs.Layout.{lastTick}
-use Rattle.starts.proofs.StartCases.{least-first, least-turn, least-total}
+use Rattle.starts.proofs.EarliestStartLaws.{least-first, least-turn, least-total}
 use borrow.Author.Needs.{needs}
 use Rattle.starts.proofs.start.processor_start.Statement.{statement}
 use Rattle.starts.proofs.start.processor_start.Tie as tie
