@@ -67,18 +67,29 @@ returns c =
     let reads = times .before .before in
     let s = reads .before .before .before .before in
     let a = s .args in
+    let old = s .pre .1 .1 .1 in
     let size = s .pre .0 .job .size (a .k) (s .pre .1 .0) in
     let time = s .pre .0 .job .moveTime (a .k) (s .pre .1 .0) in (
       demand-next (a .shape) (jobOf (a .job .now)) (entriesOf (a .schedule .now)) (a .task) (colourBy (a .colour)) (s .pre .1 .0) (s .pre .1 .1 .0)
-          (reads .before .before .before .maker .ensures) (reads .before .before .reader .ensures) (reads .before .size .ensures) (reads .crossing-file .ensures)
+          (reads .before .before .before .maker .ensures) (reads .before .before .reader .ensures) (reads .before .size .ensures)
+          (reads .crossing-file .ensures)
           (times .before .move-time .ensures) (times .value-if .ensures .0) (sums .before .finish .ensures .0)
           (sums .value-if2 .ensures .0) (last .before .before .value-if3 .ensures .0) (last .value-if4 .ensures .0)
           (c .before .greater .ensures) (c .greater2 .ensures),
       record {
-        incoming = omega (arith, size, s .pre .1 .1 .1 .incoming, reads .before .size .ensures, sums .value-if2 .ensures .1);
-        outputs = omega (arith, size, s .pre .1 .1 .1 .outputs, reads .before .size .ensures, last .before .before .value-if3 .ensures .1);
-        arrival = omega (arith, time, s .pre .1 .1 .1 .arrival, times .before .move-time .ensures, times .value-if .ensures .1, sums .before .finish .ensures .1, last .value-if4 .ensures .1, c .before .greater .ensures);
-        longest = omega (arith, time, s .pre .1 .1 .1 .longest, times .before .move-time .ensures, times .value-if .ensures .1, c .greater2 .ensures);
+        incoming = omega (arith, size, old .incoming, sums .value-if2 .ensures .1, reads .before .size .ensures);
+        outputs = omega (arith, size, old .outputs, last .before .before .value-if3 .ensures .1, reads .before .size .ensures);
+        arrival = omega (
+          arith,
+          time,
+          old .arrival,
+          times .before .move-time .ensures,
+          times .value-if .ensures .1,
+          sums .before .finish .ensures .1,
+          last .value-if4 .ensures .1,
+          c .before .greater .ensures,
+        );
+        longest = omega (arith, time, old .longest, times .before .move-time .ensures, times .value-if .ensures .1, c .greater2 .ensures);
       },
     )
 

@@ -37,10 +37,21 @@ loop-less c = search needs
 loop-again : tie.Need-loop-again Inv-loop μ-loop
 loop-again c =
     let a = c .before .before .before .before .before .args in
-    omega (arith, max-next (lateEnd (instanceFrom (a .shape) (jobOf (a .job .now))) (scheduleFrom (a .shape) (entriesOf (a .schedule .now))) (colourBy (a .colour)) (a .need)) (c .before .before .before .before .loop .i))
+    omega (
+      arith,
+      max-next
+          (lateEnd (instanceFrom (a .shape) (jobOf (a .job .now))) (scheduleFrom (a .shape) (entriesOf (a .schedule .now))) (colourBy (a .colour)) (a .need))
+          (c .before .before .before .before .loop .i),
+    )
 
 returns : tie.Need-returns Inv-loop μ-loop
-returns c = let a = c .before .before .before .args in omega (arith, late-total (a .shape) (jobOf (a .job .now)) (entriesOf (a .schedule .now)) (a .need) (colourBy (a .colour)) {n = c .before .before .loop .i} (omega arith))
+returns c =
+    let a = c .before .before .before .args in
+    omega (
+      arith,
+      late-total (a .shape) (jobOf (a .job .now)) (entriesOf (a .schedule .now)) (a .need) (colourBy (a .colour)) {n = c .before .before .loop .i}
+          (omega arith),
+    )
 
 pub last-late-spec : {M : Type 1} → statement M
 last-late-spec =
