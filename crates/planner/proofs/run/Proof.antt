@@ -61,27 +61,27 @@ enum-told c = search needs
 
 returns : tie.Need-returns Inv-loop μ-loop
 returns c =
-    let s = c .before .before .before .before .before .before .before .before .before .before .before in
-    planning-stuck (asPlanner (s .args .rule)) (s .args .shape) (jobOf (s .args .job .now)) (s .pre .0)
-    (c .before .before .before .before .before .before .before .before .before .loop .inv .2)
-    (c .before .before .before .before .before .before .before .if1 .taken) (c .before .before .before .round .result)
-    (c .before .before .before .round .ensures .0) (c .enum-told .given .1)
+    let found = c .before .before .before in
+    let loop = found .before .before .before .before .before .before in
+    let s = loop .before .before in
+    planning-stuck (asPlanner (s .args .rule)) (s .args .shape) (jobOf (s .args .job .now)) (s .pre .0) (loop .loop .inv .2)
+    (found .before .before .before .before .if1 .taken) (found .round .result) (found .round .ensures .0) (c .enum-told .given .1)
 
 place-requires : tie.Need-place-requires Inv-loop μ-loop
 place-requires c κs =
-    let s = c .before .before .before .before .before .before .before .before .before .before .before .before .before .before in
-    let v = c .before .before .before .before .before .before .before .before .before .before .before .before .loop .inv in
-    let x = chosen-bounds (s .args .shape) (c .before .before .before .before .before .before .round .result .choice)
-    (c .before .before .before .choice .given .1) (c .before .before .before .before .before .before .round .ensures .1 .0) in (
+    let found = c .before .before .before .before .before .before in
+    let loop = found .before .before .before .before .before .before in
+    let s = loop .before .before in
+    let v = loop .loop .inv in
+    let chosen = c .before .before .before .choice .given .1 in
+    let x = chosen-bounds (s .args .shape) (found .round .result .choice) chosen (found .round .ensures .1 .0) in (
       job-bounds (s .args .shape) (jobOf (s .args .job .now)) (s .pre .0),
       (
         (v .0, v .1),
         (
-          x,
+          (omega arith, omega arith),
           planning-processor (asPlanner (s .args .rule)) (s .args .shape) (jobOf (s .args .job .now)) (s .pre .0) (v .2)
-              (c .before .before .before .before .before .before .before .before .before .before .if1 .taken)
-              (c .before .before .before .before .before .before .round .result) (c .before .before .before .before .before .before .round .ensures .0)
-              (c .before .before .before .choice .given .1),
+              (found .before .before .before .before .if1 .taken) (found .round .result) (found .round .ensures .0) chosen,
         ),
       ),
     )
@@ -94,15 +94,14 @@ loop-less c = search needs
 
 loop-again : tie.Need-loop-again Inv-loop μ-loop
 loop-again c =
-    let s = c .before .before .before .before .before .before .before .before .before .before .before .before .before .before .before in
-    let v = c .before .before .before .before .before .before .before .before .before .before .before .before .before .loop .inv in (
+    let found = c .before .before .before .before .before .before .before in
+    let loop = found .before .before .before .before .before .before in
+    let s = loop .before .before in (
       c .place .ensures .0 .0,
       c .place .ensures .0 .1,
-      planning-next (asPlanner (s .args .rule)) (s .args .shape) (jobOf (s .args .job .now)) (s .pre .0) (v .2)
-          (c .before .before .before .before .before .before .before .before .before .before .before .if1 .taken)
-          (c .before .before .before .before .before .before .before .round .result)
-          (c .before .before .before .before .before .before .before .round .ensures .0) (c .before .before .before .before .choice .given .1) _ _
-          (c .place .ensures .1) (c .before .before .before .before .before .before .before .round .ensures .1 .1),
+      planning-next (asPlanner (s .args .rule)) (s .args .shape) (jobOf (s .args .job .now)) (s .pre .0) (loop .loop .inv .2)
+          (found .before .before .before .before .if1 .taken) (found .round .result) (found .round .ensures .0)
+          (c .before .before .before .before .choice .given .1) _ _ (c .place .ensures .1) (found .round .ensures .1 .1),
     )
 
 returns-2 : tie.Need-returns-2 Inv-loop μ-loop
