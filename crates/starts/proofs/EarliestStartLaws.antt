@@ -9,13 +9,15 @@ use native.Mathlib.Nat.{add-zero}
 use lib.ListN.{getD}
 use Rattle.rules.specs.Count.{minUpTo}
 use Rattle.rules.specs.Model.{Instance, Schedule}
-use Rattle.rules.specs.Scheduling.{Partial, processorStart, inputStart, crossingSize, crossingTime, outputSize, freeFrom, latest, delayed, earliestStart}
+use Rattle.rules.specs.Scheduling.{Partial, processorStart, freeFrom, latest, delayed, earliestStart}
 use Rattle.rules.proofs.CountLaws.{min-cong}
 use Rattle.model.specs.declared.layout.Shape.{Shape}
 use Rattle.model.specs.Layout.{Job, Entries, instanceFrom, scheduleFrom, colourBy, partialFrom, countIn, Processors}
 use Rattle.model.proofs.LayoutLaws.{last-finish-at}
 use Rattle.starts.specs.declared.memory.Free.{Free}
 use Rattle.starts.specs.declared.memory.Free.the-variants.{Nowhere, From}
+use Rattle.starts.specs.declared.demand.Demand.{Demand}
+use Rattle.starts.specs.Demands.{DemandOf}
 use Rattle.starts.specs.FreeMemory.{asOption, tickOf}
 
 -- ---- the greatest of the four
@@ -30,7 +32,8 @@ module _ (p : ℕ) (a b : Free) (d : ℕ) where
   pub latest-second : {x : ℕ} → a ≡ From x → b ≡ Nowhere → none ≡ latest (some p) (latest (asOption a) (delayed (asOption b) d))
   latest-second e g = rw (e, g)
 
-  pub latest-both : {x y r : ℕ} → a ≡ From x → b ≡ From y → r ≡ max p (max x (y + d)) → some r ≡ latest (some p) (latest (asOption a) (delayed (asOption b) d))
+  pub latest-both : {x y r : ℕ} → a ≡ From x → b ≡ From y → r ≡ max p (max x (y + d))
+      → some r ≡ latest (some p) (latest (asOption a) (delayed (asOption b) d))
   latest-both e g q = rw (e, g, q)
 
 -- ---- start 1
@@ -68,7 +71,9 @@ module _ (b : Shape) (J : Job) (L : Entries) (last : List ℕ) where
         ≡ minUpTo (pred (countIn b c)) (at last (cond c 0 (b .board .blue .processors)))
     unfolding processorStart instanceFrom
     least-finish true = min-cong (pred (b .board .blue .processors)) _ _ (λ p l. slot (0 + p) p (omega arith) (omega (arith, f .blue .least)))
-    least-finish false = min-cong (pred (b .board .red .processors)) _ _ (λ p l. slot (b .board .blue .processors + p) (b .board .blue .processors + p) refl (omega (arith, f .red .least)))
+    least-finish false =
+        let m = b .board .blue .processors in
+        min-cong (pred (b .board .red .processors)) _ _ (λ p l. slot (m + p) (m + p) refl (omega (arith, f .red .least)))
 
     pub least-total : (c : Bool) {first n i : ℕ} → first ≡ cond c 0 (b .board .blue .processors) → n ≡ countIn b c
         → i ≡ n → minUpTo (pred i) (at last first) ≡ processorStart I Q (colourBy c)
@@ -76,11 +81,10 @@ module _ (b : Shape) (J : Job) (L : Entries) (last : List ℕ) where
 
   -- ---- the four starts
 
-  pub earliest-at : (i : ℕ) (c : Bool) (x y z : Free) {one two r into out d : ℕ}
-      → one ≡ processorStart I Q (colourBy c) → two ≡ inputStart I P i (colourBy c) → r ≡ max one two
-      → into ≡ crossingSize I P i (colourBy c) → out ≡ outputSize I i → d ≡ crossingTime I P i (colourBy c)
-      → asOption x ≡ freeFrom I P (colourBy c) (into + out) → asOption y ≡ freeFrom I P (colourBy c) into
-      → asOption z ≡ latest (some r) (latest (asOption x) (delayed (asOption y) d))
+  pub earliest-at : (i : ℕ) (c : Bool) {d : Demand} (x y z : Free) {one r : ℕ}
+      → DemandOf I P i (colourBy c) d → one ≡ processorStart I Q (colourBy c) → r ≡ max one (d .arrival)
+      → asOption x ≡ freeFrom I P (colourBy c) (d .incoming + d .outputs) → asOption y ≡ freeFrom I P (colourBy c) (d .incoming)
+      → asOption z ≡ latest (some r) (latest (asOption x) (delayed (asOption y) (d .longest)))
       → asOption z ≡ earliestStart I Q i (colourBy c)
   unfolding earliestStart
-  earliest-at i c x y z e1 e2 er ei eo ed ex ey ez = ez ∙ rw (ex, ey, er, e1, e2, ei, eo, ed)
+  earliest-at i c x y z e e1 er ex ey ez = ez ∙ rw (ex, ey, er, e1, e .arrival, e .incoming, e .outputs, e .longest)

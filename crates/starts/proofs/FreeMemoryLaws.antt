@@ -18,7 +18,7 @@ use Rattle.model.specs.Layout.{Job, Entries, instanceFrom, scheduleFrom, colour
 use Rattle.model.specs.Holds.{asHold}
 use Rattle.model.proofs.LayoutLaws.{file-count, limit-of}
 use Rattle.starts.specs.FreeMemory.{endOf, lateEnd}
-use Rattle.starts.proofs.LateLaws.{free-latest}
+use Rattle.starts.proofs.LateEndLaws.{free-latest}
 
 -- a hold changes no more from its end on
 pub end-settles : (h : Held) → endOf h ≤ settles h

@@ -119,7 +119,10 @@ module _ (b : Shape) (J : Job) (L : Entries) (last : List ℕ) where
   below-trials = refl
 
   below-next : (n : ℕ) → earliestBelow I Q (n + 1)
-      ≡ record { choice = earlier I (earliestBelow I Q n .choice) (firstThatFits I Q (n ∷ []) .choice); trials = earliestBelow I Q n .trials + firstThatFits I Q (n ∷ []) .trials }
+      ≡ record {
+        choice = earlier I (earliestBelow I Q n .choice) (firstThatFits I Q (n ∷ []) .choice);
+        trials = earliestBelow I Q n .trials + firstThatFits I Q (n ∷ []) .trials;
+      }
   unfolding earliestBelow
   below-next n = split (ready I (Q .schedule) n)
       (λ e. rw (add-one n, e, one-ready I Q n e))

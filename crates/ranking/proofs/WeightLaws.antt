@@ -65,7 +65,8 @@ module _ (b : Shape) (J : Job) (W : WellFormed (instanceFrom b J)) where
     pub reader-turn : {k : ℕ} → k < b .files → {m d t r : ℕ} → m ≡ J .maker k → d ≡ J .reader k → t ≡ J .moveTime k → r ≡ cond (eqb m i) (t + getD ws d 0) 0
         → maxWhere (k + 1) (makes I i) (pathAt I) ≡ max (maxWhere k (makes I i) (pathAt I)) r
     reader-turn {k} h {m} {d} {t} {r} p q z e =
-        let a : cond (makes I i k) (pathAt I k) 0 ≡ cond (makes I i k) (t + getD ws d 0) 0 = cond-same (makes I i k) (pathAt I k) (t + getD ws d 0) (path-known h q z) in
+        let a : cond (makes I i k) (pathAt I k) 0 ≡ cond (makes I i k) (t + getD ws d 0) 0 =
+        cond-same (makes I i k) (pathAt I k) (t + getD ws d 0) (path-known h q z) in
         let s : cond (makes I i k) (t + getD ws d 0) 0 ≡ r = ap (λ x. cond x (t + getD ws d 0) 0) (sym (makes-at b J h i p)) ∙ sym e in
         omega (arith, max-next (λ k. cond (makes I i k) (pathAt I k) 0) k)
 
