@@ -72,8 +72,7 @@ returns c =
     let time = s .pre .0 .job .moveTime (a .k) (s .pre .1 .0) in (
       demand-next (a .shape) (jobOf (a .job .now)) (entriesOf (a .schedule .now)) (a .task) (colourBy (a .colour)) (s .pre .1 .0) (s .pre .1 .1 .0)
           (reads .before .before .before .maker .ensures) (reads .before .before .reader .ensures) (reads .before .size .ensures)
-          (reads .crossing-file .ensures)
-          (times .before .move-time .ensures) (times .value-if .ensures .0) (sums .before .finish .ensures .0)
+          (reads .crossing-file .ensures) (times .before .move-time .ensures) (times .value-if .ensures .0) (sums .before .finish .ensures .0)
           (sums .value-if2 .ensures .0) (last .before .before .value-if3 .ensures .0) (last .value-if4 .ensures .0)
           (c .before .greater .ensures) (c .greater2 .ensures),
       record {
