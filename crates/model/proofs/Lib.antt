@@ -10,3 +10,5 @@ pub mod LayoutLaws
 pub mod CrossingLaws
 -- the loops over the files
 pub mod ResidencyLoops
+-- the arrays of a schedule that the due lines can spell
+pub mod SpelledLaws

@@ -4,15 +4,14 @@ ghost use Rattle.rules.specs.Calls.{written, planOn};
 ghost use Rattle.rules.specs.Promises.{WellFormed};
 ghost use Rattle.rules.specs.ScheduleText.{scheduleText};
 ghost use Rattle.rules.specs.Validity.{trueClaim};
-ghost use Rattle.model.specs.Layout.{entriesOf, instanceOf, scheduleOf, InBounds};
-ghost use Rattle.validator.specs.Complete.{Placed};
+ghost use Rattle.model.specs.Layout.{entriesOf, instanceOf, scheduleOf, InBounds, Placed};
 ghost use Rattle.planner.specs.Outcomes.{asPlanner};
 ghost use Rattle.plan_text.specs.Planning.{asAnswer};
+use claims::true_claim;
 use model::layout;
 use model::layout::Shape;
 use planner::Outcome;
 use planner::Rule;
-use validator::judgement::true_claim;
 
 // A planner's answer: on success the number is 0 and the place the bytes written.
 pub struct Answer {

@@ -9,8 +9,8 @@ use borrow.Author.Tests.{lt-ltb, le-ltb, eq-eqb, ne-eqb}
 use Rattle.rules.specs.Count.{firstBelow}
 use Rattle.rules.specs.Model.{blue, red, Instance, taskCount, Schedule}
 use Rattle.rules.specs.Residency.{horizon}
-use Rattle.rules.specs.Validity.{Claim, overlaps, readsEarly, makespan, peak, over, trueClaim, sameClaim, Verdict, refusedBy, acceptedWith, judge}
-use Rattle.validator.specs.Answer.{judgedClaim, judgedMemory, judgedTiming}
+use Rattle.rules.specs.Validity.{Claim, overlaps, readsEarly, over, trueClaim, sameClaim, Verdict, refusedBy, acceptedWith}
+use Rattle.rules.specs.Validity.{judgedClaim, judgedMemory, judgedTiming, judge}
 
 module _ (I : Instance) (P : Schedule) (claim : Claim) where
   module _ {i n : ℕ} (e : i ≡ firstBelow (taskCount I) (overlaps I P)) (t : taskCount I ≡ n) where
@@ -19,7 +19,7 @@ module _ (I : Instance) (P : Schedule) (claim : Claim) where
     judge-15 r l = r ∙ rw (add-one i, e) (rw (lt-ltb (firstBelow (taskCount I) (overlaps I P)) (taskCount I) (rw (e, ← t) at l)))
 
     pub judge-on : {v : Verdict} → v ≡ judgedTiming I P claim → n ≤ i → v ≡ judge I P claim
-    unfolding judge judgedTiming judgedMemory judgedClaim
+    unfolding judge
     judge-on r l = r ∙ rw (le-ltb (firstBelow (taskCount I) (overlaps I P)) (taskCount I) (rw (e, ← t) at l))
 
   module _ {j n : ℕ} (e : j ≡ firstBelow (taskCount I) (readsEarly I P)) (t : taskCount I ≡ n) where
@@ -54,11 +54,6 @@ module _ (I : Instance) (P : Schedule) (claim : Claim) where
     pub judge-18 : {v : Verdict} → v ≡ refusedBy 18 0 → y ≡ false → v ≡ judgedClaim I P claim
     unfolding judgedClaim
     judge-18 r h = r ∙ rw (same h)
-
-pub true-claim : (I : Instance) (P : Schedule) {s b r : ℕ} → s ≡ makespan I P → b ≡ peak I P blue → r ≡ peak I P red
-    → _≡_ {A = Claim} (record { span = s; bluePeak = b; redPeak = r }) (trueClaim I P)
-unfolding trueClaim
-true-claim I P x y z = λ k. record { span = x k; bluePeak = y k; redPeak = z k }
 
 pub same-span : (a b : Claim) → a .span ≢ b .span → false ≡ sameClaim a b
 same-span a b x = rw (ne-eqb (a .span) (b .span) x)

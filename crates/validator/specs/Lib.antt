@@ -1,6 +1,5 @@
 -- What the validator's functions compute.
 pub mod Least
-pub mod Starts
-pub mod Complete
+pub mod OverLimit
 pub mod Records
 pub mod Answer

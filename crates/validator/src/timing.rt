@@ -1,13 +1,12 @@
-// When files are made, moved and read, and when the schedule ends.
+// When files are made, moved and read.
 ghost use mathlib.Core.Path.{_≡_};
 ghost use mathlib.Core.Bool.{cond, _||_};
-ghost use Prim.Native.Nat.{_<_, _≤_};
+ghost use Prim.Native.Nat.{_<_};
 ghost use lib.Dec.{ltb};
 ghost use Rattle.rules.specs.Count.{firstBelow};
 ghost use Rattle.rules.specs.Model.{taskCount};
-ghost use Rattle.rules.specs.Validity.{early, readsEarly, makespan as rules-makespan};
-ghost use Rattle.model.specs.Layout.{instanceOf, scheduleOf, InBounds, lastTick};
-use model::choice::greater;
+ghost use Rattle.rules.specs.Validity.{early, readsEarly};
+ghost use Rattle.model.specs.Layout.{instanceOf, scheduleOf, InBounds};
 use model::choice::lesser;
 use model::choice::select;
 use model::layout;
@@ -61,7 +60,9 @@ pub fn first_early<'a>(
     schedule: &'a [u64; layout::SCHEDULE],
 ) -> u64
     requires { ⌜ InBounds shape (now job) (now schedule) ⌝ }
-    ensures { λ r. ⌜ r ≡ firstBelow (taskCount (instanceOf shape (now (job .entry)))) (readsEarly (instanceOf shape (now (job .entry))) (scheduleOf shape (now (schedule .entry)))) ⌝ }
+    ensures { λ r. ⌜ r ≡
+        firstBelow (taskCount (instanceOf shape (now (job .entry))))
+        (readsEarly (instanceOf shape (now (job .entry))) (scheduleOf shape (now (schedule .entry)))) ⌝ }
 {
     let tasks = shape.tasks as u64;
     let mut first: u64 = tasks;
@@ -72,23 +73,4 @@ pub fn first_early<'a>(
         i += 1;
     }
     first
-}
-
-// The greatest finish: document 01's span.
-pub fn makespan<'a>(
-    shape: Shape,
-    job: &'a [u64; layout::JOB],
-    schedule: &'a [u64; layout::SCHEDULE],
-) -> u64
-    requires { ⌜ InBounds shape (now job) (now schedule) ⌝ }
-    ensures { λ r. ⌜ r ≡ rules-makespan (instanceOf shape (now (job .entry))) (scheduleOf shape (now (schedule .entry))) ⌝ }
-    ensures { λ r. ⌜ r ≤ lastTick ⌝ }
-{
-    let mut most: u64 = 0;
-    let mut i: usize = 0;
-    while i < shape.tasks {
-        most = greater(most, finish(shape, job, schedule, i));
-        i += 1;
-    }
-    most
 }

@@ -3,7 +3,7 @@ use mathlib.Core.Path.{refl, sym, ap, _∙_}
 use Rattle.rules.proofs.OutcomeLaws.{completed-spellable}
 use Rattle.model.specs.Layout.{jobOf, entriesOf, instanceFrom, scheduleFrom}
 use Rattle.model.proofs.LayoutLaws.{job-bounds}
-use Rattle.validator.proofs.SpelledLaws.{spelled-placed, spelled-bounds}
+use Rattle.model.proofs.SpelledLaws.{spelled-placed, spelled-bounds}
 use Rattle.planner.specs.Outcomes.{asPlanner}
 use Rattle.rules.specs.Calls.{planMade}
 use Rattle.plan_text.proofs.AnswerLaws.{made-stuck, made-complete}

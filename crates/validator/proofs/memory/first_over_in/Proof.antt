@@ -3,8 +3,9 @@ use Prim.Native.Nat.{_≤_, _-_}
 use mathlib.Core.Path.{_≡_, sym, _∙_}
 use native.Mathlib.Omega.{arith}
 use Rattle.model.specs.Layout.{jobOf, entriesOf, instanceFrom, scheduleFrom, colourBy}
+use Rattle.claims.specs.Starts.{startIn}
 use Rattle.validator.specs.Least.{leastWhere}
-use Rattle.validator.specs.Starts.{startIn, overAtStart}
+use Rattle.validator.specs.OverLimit.{overAtStart}
 use Rattle.validator.proofs.LeastLaws.{least-none}
 use Rattle.validator.proofs.Loops.{over-turn, over-in-total}
 use borrow.Author.Needs.{needs}

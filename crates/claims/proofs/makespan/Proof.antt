@@ -6,10 +6,10 @@ use Rattle.rules.specs.Count.{maxBelow}
 use Rattle.rules.specs.Model.{finishAt}
 use Rattle.model.specs.Layout.{jobOf, entriesOf, instanceFrom, scheduleFrom, lastTick}
 use Rattle.model.proofs.StepLaws.{max-none, max-next}
-use Rattle.validator.proofs.Loops.{span-total}
+use Rattle.claims.proofs.ClaimLoops.{span-total}
 use borrow.Author.Needs.{needs}
-use Rattle.validator.proofs.timing.makespan.Statement.{statement}
-use Rattle.validator.proofs.timing.makespan.Tie as tie
+use Rattle.claims.proofs.makespan.Statement.{statement}
+use Rattle.claims.proofs.makespan.Tie as tie
 
 abbrev Inv-loop : tie.InvT-loop
 Inv-loop shape job schedule most₀ i₀ most i =

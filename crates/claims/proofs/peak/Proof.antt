@@ -5,11 +5,11 @@ use native.Mathlib.Omega.{arith}
 use Rattle.rules.specs.Count.{maxBelow}
 use Rattle.model.specs.Layout.{jobOf, entriesOf, instanceFrom, scheduleFrom, colourBy, mostHeld}
 use Rattle.model.proofs.StepLaws.{max-none}
-use Rattle.validator.specs.Starts.{heldAtStart}
-use Rattle.validator.proofs.Loops.{peak-turn, peak-total}
+use Rattle.claims.specs.Starts.{heldAtStart}
+use Rattle.claims.proofs.ClaimLoops.{peak-turn, peak-total}
 use borrow.Author.Needs.{needs}
-use Rattle.validator.proofs.memory.peak.Statement.{statement}
-use Rattle.validator.proofs.memory.peak.Tie as tie
+use Rattle.claims.proofs.peak.Statement.{statement}
+use Rattle.claims.proofs.peak.Tie as tie
 
 abbrev Inv-loop : tie.InvT-loop
 Inv-loop shape job schedule colour most₀ i₀ most i =
