@@ -1,4 +1,4 @@
-/* Plans the course example of document 01 by both planners, and marks the plans. */
+/* Plans the course example (docs/RULES.md) by both planners, and marks the plans. */
 #include <stdio.h>
 #include <string.h>
 

@@ -1,7 +1,12 @@
-/* Plans and marks schedules for a board with two memories. Link target/staticlib/libframes.a, which `rt staticlib frames` writes.
+/* Plans and marks timetables for a board with two memories. Link target/staticlib/libframes.a, which ./build (or `rt staticlib frames`) writes.
+ * docs/RULES.md has the rules.
  *
- * A text is a pointer and a length; any bytes may be handed in, and no call asks anything else of its caller than that the memory is
- * there. Numbers and places of refusals are those of the README. */
+ * A text is a pointer and a length in bytes, and any bytes may be in it: what is wrong with them is the answer. What a caller has to see to:
+ *   - Each pointer has as many bytes behind it as its length says, readable, and writable for `line` and `out`. With length 0 it may be NULL.
+ *   - `result` is an array of the length shown, and never NULL. What it held before plays no part.
+ *   - `line`, `out` and `result` overlap neither a text nor each other. The two texts may overlap, or be one.
+ *   - FRAMES_STACK bytes of stack are left.
+ * A call uses no heap, no global data and no file, keeps nothing, and always returns; so calls may run at the same time on several threads. */
 #ifndef FRAMES_H
 #define FRAMES_H
 
@@ -12,15 +17,42 @@
 extern "C" {
 #endif
 
-/* Marks a timetable (paper) on a board sheet. result: number (0 accepted), place, span, blue peak, red peak; on a refusal the last three are 0. */
+/* The longest text that is read, in bytes. No timetable of a planner is longer, so a buffer of this length is never too short. */
+#define FRAMES_MAX_TEXT 32768
+
+/* Stack that is enough for any call, in bytes. On the largest sheet (64 tasks, 256 files) a planner used 15 KB and the marker, with every file
+ * moved, 20 KB: tests/calls.c runs each call on a painted stack, and fails if one uses more than this. */
+#define FRAMES_STACK 32768
+
+/* The numbers that a call answers. The place is what stands in brackets; lines and tasks are counted from 1. The marker answers 0, 1 to 4 and 11
+ * to 18, a planner 0, 1 to 4, 21 and 31. */
+enum frames_number {
+    FRAMES_OK = 0,                   /* accepted (0), or planned (bytes written) */
+    FRAMES_SHEET_TOO_LONG = 1,       /* the board sheet is over FRAMES_MAX_TEXT bytes (0) */
+    FRAMES_SHEET_MALFORMED = 2,      /* a line of it is none of its three forms, lacks its LF, or is missing (line) */
+    FRAMES_SHEET_OUT_OF_RANGE = 3,   /* a number of it is out of its range (line) */
+    FRAMES_SHEET_NOT_ALLOWED = 4,    /* a readable line of it is not allowed there (line) */
+    FRAMES_PAPER_TOO_LONG = 11,      /* the timetable is over FRAMES_MAX_TEXT bytes (0) */
+    FRAMES_PAPER_MALFORMED = 12,     /* a line of it is none of its three forms, lacks its LF, or is missing (line) */
+    FRAMES_PAPER_OUT_OF_RANGE = 13,  /* a number of it is out of its range (line) */
+    FRAMES_PAPER_NOT_DUE = 14,       /* a readable line of it is not the one due (line) */
+    FRAMES_OVERLAP = 15,             /* two runs on one processor share an instant (lowest such task) */
+    FRAMES_EARLY = 16,               /* a task starts before a file that it reads has arrived, or a file moves before it is made (lowest reader) */
+    FRAMES_OVER_LIMIT = 17,          /* a memory holds more than its limit (first such tick) */
+    FRAMES_CLAIM_UNTRUE = 18,        /* the claim is untrue (0) */
+    FRAMES_STUCK = 21,               /* the planner is stuck: no ready task fits (tasks placed) */
+    FRAMES_BUFFER_TOO_SHORT = 31     /* the lent buffer is too short for the timetable (bytes needed) */
+};
+
+/* Marks a timetable (paper) on a board sheet. result: number, place, span, blue peak, red peak; on a refusal the last three are 0. */
 void frames_mark(const uint8_t *sheet, size_t sheet_len, const uint8_t *paper, size_t paper_len, uint64_t result[5]);
 
-/* The line at fault of the same two texts, without its LF: of the sheet for 1 to 4, of the paper for 11 to 14; empty if that line does not
+/* The line at fault of the same two texts, without its LF: of the sheet for 2 to 4, of the paper for 12 to 14; empty if that line does not
  * exist, and for every other number. Returns its length, and copies it to the front of line if it fits there; otherwise line stays as it was. */
 size_t frames_fault_line(const uint8_t *sheet, size_t sheet_len, const uint8_t *paper, size_t paper_len, uint8_t *line, size_t line_len);
 
 /* Plans a board sheet by MemHEFT, and writes the timetable to the front of out; the bytes behind it stay, and on a refusal all do.
- * result: number (0 success), place (on success the bytes written, for 31 the bytes needed), trials. 32768 bytes are always enough. */
+ * result: number, place, trials (0 after a refusal of the sheet). */
 void frames_mem_heft(const uint8_t *sheet, size_t sheet_len, uint8_t *out, size_t out_len, uint64_t result[3]);
 
 /* The same by MemMinMin. */

@@ -1,30 +1,68 @@
 -- An answer that equals its definition keeps the demands.
-use Prim.Native.Nat.{ℕ}
-use mathlib.Core.Path.{_≡_}
+use Prim.Native.Nat.{ℕ, _≤_}
+use mathlib.Core.Path.{_≡_, ap}
 use mathlib.Core.List.{List}
+use native.Mathlib.Omega.{arith}
+use lib.ListN.{length}
+use Rattle.rules.specs.Limits.{maxText}
 use Rattle.rules.specs.Validity.{Verdict}
 use Rattle.rules.specs.Scheduling.{Planner}
+use Rattle.rules.specs.Text.{Fault, inSheet, faultNumber}
 use Rattle.rules.specs.Calls.{Answer, mark, plan}
-use Rattle.rules.proofs.MarkerLaws.{markerEnds, markerExact}
-use Rattle.rules.proofs.PlannerLaws.{plannerEnds, plannerExact, readBack, ampleMemory, plan-trials}
+use Rattle.rules.specs.CallsExact.{Planned, byText, by21, by31, by0}
+use Rattle.rules.proofs.SheetLaws.{sheetExact}
+use Rattle.rules.proofs.SheetFaultLaws.{sheetFaults}
+use Rattle.rules.proofs.ScheduleFaultLaws.{scheduleFaults}
+use Rattle.rules.proofs.MarkerLaws.{markerEnds, markerExact, mark-sheet, mark-timetable}
+use Rattle.rules.proofs.PlannerLaws.{plannerEnds, plannerExact, plansShort, readBack, ampleMemory, plan-refused, plan-trials}
+use Rattle.rules.proofs.CallsExactLaws.{markCall, planCall}
 use Rattle.rules.proofs.TrialLaws.{trialBound}
-use Rattle.rules.specs.Promises.{MarkedOrRefused, MarkedExactly}
-use Rattle.frames.specs.Demands.{Planned}
+use Rattle.frames.specs.Demands.{MarkerDemands, PlannerDemands}
+use Rattle.frames.proofs.FaultLaws.{marked-by-sheet, marked-by-paper, planned-by-sheet, sheet-numbers}
 
-pub marked-ends : (sheet timetable : List ℕ) {v : Verdict} → v ≡ mark sheet timetable → MarkedOrRefused v
-marked-ends sheet timetable e = rw e (markerEnds sheet timetable)
-
-pub marked-exactly : (sheet timetable : List ℕ) {v : Verdict} → v ≡ mark sheet timetable → MarkedExactly sheet timetable v
-marked-exactly sheet timetable e = rw e (markerExact sheet timetable)
-
-plan-planned : (R : Planner) (sheet buffer : List ℕ) → Planned R sheet buffer (plan R sheet buffer)
-plan-planned R sheet buffer = record {
-  ends = plannerEnds R sheet buffer;
-  exactly = plannerExact R sheet buffer;
-  readBack = readBack R sheet buffer;
-  ample = λ I e ample. let C = ampleMemory R sheet I e ample in (C, C .success buffer);
-  trials = λ I e. let q = plan-trials R sheet buffer I e in (q, rw q (trialBound R I));
+-- ---- the marker
+mark-demands : (sheet paper : List ℕ) → MarkerDemands sheet paper (mark sheet paper)
+mark-demands sheet paper = record {
+  ends = markerEnds sheet paper;
+  call = markCall sheet paper;
+  exactly = markerExact sheet paper;
+  sheetFault = λ w k. (
+    (λ e. sheetFaults sheet w k .0 (marked-by-sheet w k (markCall sheet paper) (ap (λ v. v .number) e) (ap (λ v. v .place) e))),
+    (λ f. mark-sheet sheet paper w k (sheetFaults sheet w k .1 f)),
+  );
+  paperFault = λ I s w k. (
+    (λ e. scheduleFaults I paper w k .0 (marked-by-paper w k I s (markCall sheet paper) (ap (λ v. v .number) e) (ap (λ v. v .place) e))),
+    (λ f. mark-timetable sheet paper I w k s (scheduleFaults I paper w k .1 f)),
+  );
 }
 
-pub planned : (R : Planner) (sheet buffer : List ℕ) {a : Answer} → a ≡ plan R sheet buffer → Planned R sheet buffer a
-planned R sheet buffer e = rw e (plan-planned R sheet buffer)
+pub marker-demands : (sheet paper : List ℕ) {v : Verdict} → v ≡ mark sheet paper → MarkerDemands sheet paper v
+marker-demands sheet paper e = rw e (mark-demands sheet paper)
+
+-- ---- a planner
+module _ (R : Planner) (sheet buffer : List ℕ) where
+  never-short : {a : Answer} → Planned R sheet buffer a → maxText ≤ length buffer → a .number ≡ 31 → ⊥
+  never-short (byText w k e) room n = omega (arith, sheet-numbers w)
+  never-short (by21 I e k t o) room n = omega arith
+  never-short (by31 I e P t o l) room n = omega (arith, plansShort R I (sheetExact sheet I .0 e .0) P t o)
+  never-short (by0 I e P t o l) room n = omega arith
+
+  plan-demands : PlannerDemands R sheet buffer (plan R sheet buffer)
+  plan-demands = record {
+    ends = plannerEnds R sheet buffer;
+    call = planCall R sheet buffer;
+    exactly = plannerExact R sheet buffer;
+    sheetFault = λ w k. (
+      (λ e. sheetFaults sheet w k .0 (planned-by-sheet w k (planCall R sheet buffer) (e .0) (e .1))),
+      (λ f.
+          let a = plan-refused R sheet buffer w k (sheetFaults sheet w k .1 f) in
+          (ap (λ a. a .number) a, ap (λ a. a .place) a)),
+    );
+    roomy = never-short (planCall R sheet buffer);
+    readBack = readBack R sheet buffer;
+    ample = λ I e ample. let C = ampleMemory R sheet I e ample in (C, C .success buffer);
+    trials = λ I e. let q = plan-trials R sheet buffer I e in (q, rw q (trialBound R I));
+  }
+
+  pub planner-demands : {a : Answer} → a ≡ plan R sheet buffer → PlannerDemands R sheet buffer a
+  planner-demands e = rw e plan-demands

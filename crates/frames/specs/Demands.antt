@@ -1,27 +1,52 @@
--- The demands as clauses of a planner's contract: what rules' promises say of the answer at hand, `a`, with the bytes that the lent
--- buffer then holds. (The marker's contract cites rules' `MarkedOrRefused` and `MarkedExactly`.)
+-- The demands as clauses of the public contracts: what rules' promises say of the answer at hand.
 use Prim.Native.Nat.{ℕ, _+_, _*_, _≤_}
 use mathlib.Core.Path.{_≡_}
+use mathlib.Core.Logic.{_↔_}
 use mathlib.Core.List.{List}
 use lib.ListN.{length}
+use Rattle.rules.specs.Limits.{maxText}
 use Rattle.rules.specs.Model.{Colour, Instance, limitOf, taskCount, allSizes}
-use Rattle.rules.specs.Validity.{trueClaim}
+use Rattle.rules.specs.Validity.{Verdict, refusedBy, trueClaim}
 use Rattle.rules.specs.Scheduling.{Planner, outcome}
+use Rattle.rules.specs.Text.{Fault, inSheet, inTimetable, faultNumber}
 use Rattle.rules.specs.InstanceText.{accepted, readInstance}
 use Rattle.rules.specs.ScheduleText.{scheduleText}
 use Rattle.rules.specs.Calls.{Answer}
-use Rattle.rules.specs.Promises.{WrittenOrRefused, PlannedExactly, AcceptedBack, Completes, trialsOf}
+use Rattle.rules.specs.Promises.{MarkedOrRefused, MarkedExactly, WrittenOrRefused, PlannedExactly, AcceptedBack, Completes, trialsOf}
+use Rattle.rules.specs.CallsExact.{Marking, Planned}
+use Rattle.rules.specs.SheetFaults.{SheetFault}
+use Rattle.rules.specs.ScheduleFaults.{ScheduleFault}
 
--- what a planner's answer and buffer promise
-pub record Planned (R : Planner) (sheet buffer : List ℕ) (a : Answer) : Type 0 where
-  -- success, or one refusal that is listed for a planner, with the buffer as it was
+-- what the marker's answer v to a board sheet and a timetable's text promises
+pub record MarkerDemands (sheet paper : List ℕ) (v : Verdict) : Type 0 where
+  -- acceptance, or one refusal listed for the marker, with span and peaks 0. Not: a number of its own
+  pub ends : MarkedOrRefused v
+  -- each ending with when it comes and the whole answer. Not: one refusal for all that is not accepted; 18 before 17
+  pub call : Marking sheet paper v
+  -- for an accepted sheet, accepted exactly if the paper is the due lines of a valid timetable. Not: all accepted; none accepted
+  pub exactly : MarkedExactly sheet paper v
+  -- 1 to 4 at k exactly if the sheet has that fault first, at line k. Not: 2 for 3; the last bad line
+  pub sheetFault : (w : Fault) (k : ℕ) → (v ≡ refusedBy (faultNumber inSheet w) k) ↔ SheetFault sheet w k
+  -- for an accepted sheet, 11 to 14 at k exactly if the paper has that fault first, at line k. Not: 14 at line 1 for every paper refused
+  pub paperFault : (I : Instance) → readInstance sheet ≡ accepted I → (w : Fault) (k : ℕ)
+      → (v ≡ refusedBy (faultNumber inTimetable w) k) ↔ ScheduleFault I paper w k
+
+-- what a planner's answer a promises, with the bytes that the lent buffer then holds
+pub record PlannerDemands (R : Planner) (sheet buffer : List ℕ) (a : Answer) : Type 0 where
+  -- success, or one refusal that is listed for a planner, with the buffer as it was. Not: the first lines written before 31
   pub ends : WrittenOrRefused buffer a
-  -- for an accepted sheet: success, 21 and 31 exactly where the rule says so, with what was written and where
+  -- each ending with when it comes and the whole answer. Not: no trials after 21 or 31
+  pub call : Planned R sheet buffer a
+  -- for an accepted sheet: success, 21 and 31 exactly where the rule says so, with what was written and where. Not: every sheet refused
   pub exactly : (I : Instance) → readInstance sheet ≡ accepted I → PlannedExactly R I buffer a
-  -- what was written is accepted when read back, with the span and peaks it claims
+  -- 1 to 4 at k exactly if the sheet has that fault first, at line k. Not: one fixed number for every sheet refused
+  pub sheetFault : (w : Fault) (k : ℕ) → ((a .number ≡ faultNumber inSheet w) × (a .place ≡ k)) ↔ SheetFault sheet w k
+  -- a buffer as long as a text may be is never too short. Not: 31 while the text fits
+  pub roomy : maxText ≤ length buffer → a .number ≡ 31 → ⊥
+  -- what was written is accepted when read back, with the span and peaks it claims. Not: one line only. Alone it is met by a planner that never succeeds
   pub readBack : a .number ≡ 0 → AcceptedBack R sheet buffer a
-  -- with limits of at least all file sizes and a buffer as long as the timetable it succeeds
+  -- with limits of at least all file sizes and a buffer as long as the timetable it succeeds. Not: stuck on each sheet
   pub ample : (I : Instance) → readInstance sheet ≡ accepted I → ((c : Colour) → allSizes I ≤ limitOf I c)
       → (C : Completes R sheet I) × (length (scheduleText I (C .schedule) (trueClaim I (C .schedule))) ≤ length buffer → a .number ≡ 0)
-  -- for an accepted sheet the trials are those of the rule, also after 21 and 31, and at most n × (n + 1)
+  -- for an accepted sheet the trials are those of the rule, also after 21 and 31, and at most n × (n + 1). Not: a made-up count
   pub trials : (I : Instance) → readInstance sheet ≡ accepted I → (a .trials ≡ trialsOf (outcome R I)) × (a .trials ≤ taskCount I * (taskCount I + 1))

@@ -8,3 +8,4 @@ pub use marker::mark;
 pub use plan_text::Answer;
 pub use planners::mem_heft;
 pub use planners::mem_min_min;
+pub use validator::judgement::Verdict;

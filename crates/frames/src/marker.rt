@@ -2,7 +2,7 @@
 ghost use mathlib.Core.Path.{_≡_};
 ghost use Rattle.rules.specs.Calls.{mark as rules-mark, faultLine};
 ghost use Rattle.validator.specs.Answer.{asVerdict};
-ghost use Rattle.rules.specs.Promises.{MarkedOrRefused, MarkedExactly};
+ghost use Rattle.frames.specs.Demands.{MarkerDemands};
 use instance::InstanceRead;
 use mark_text::mark_paper;
 use model::layout;
@@ -12,8 +12,7 @@ use validator::judgement::Verdict;
 // Marks a timetable on a board sheet: number, place, span and peaks.
 pub fn mark<'a>(sheet: &'a [u8], paper: &'a [u8]) -> Verdict
     ensures { λ r. ⌜ asVerdict r ≡ rules-mark (now (sheet .entry)) (now (paper .entry)) ⌝ }
-    ensures { λ r. ⌜ MarkedOrRefused (asVerdict r) ⌝ }
-    ensures { λ r. ⌜ MarkedExactly (now (sheet .entry)) (now (paper .entry)) (asVerdict r) ⌝ }
+    ensures { λ r. ⌜ MarkerDemands (now (sheet .entry)) (now (paper .entry)) (asVerdict r) ⌝ }
 {
     let mut job = [0; layout::JOB];
     match instance::read(sheet, &mut job) {

@@ -4,7 +4,7 @@ ghost use Rattle.rules.specs.Calls.{plan as rules-plan};
 ghost use Rattle.rules.specs.Scheduling.{memHeft, memMinMin};
 ghost use Rattle.planner.specs.Outcomes.{asPlanner};
 ghost use Rattle.plan_text.specs.Planning.{asAnswer};
-ghost use Rattle.frames.specs.Demands.{Planned};
+ghost use Rattle.frames.specs.Demands.{PlannerDemands};
 use instance::InstanceRead;
 use model::layout;
 use plan_text::Answer;
@@ -29,7 +29,7 @@ fn plan_sheet(rule: Rule, sheet: &[u8], out: &mut [u8]) -> Answer
 // MemHEFT's timetable of a board sheet, written at the front of the buffer.
 pub fn mem_heft(sheet: &[u8], out: &mut [u8]) -> Answer
     ensures { λ r. ⌜ asAnswer r (now (out .exit)) ≡ rules-plan memHeft (now (sheet .entry)) (now (out .entry)) ⌝ }
-    ensures { λ r. ⌜ Planned memHeft (now (sheet .entry)) (now (out .entry)) (asAnswer r (now (out .exit))) ⌝ }
+    ensures { λ r. ⌜ PlannerDemands memHeft (now (sheet .entry)) (now (out .entry)) (asAnswer r (now (out .exit))) ⌝ }
 {
     plan_sheet(Rule::MemHeft, sheet, out)
 }
@@ -37,7 +37,7 @@ pub fn mem_heft(sheet: &[u8], out: &mut [u8]) -> Answer
 // MemMinMin's.
 pub fn mem_min_min(sheet: &[u8], out: &mut [u8]) -> Answer
     ensures { λ r. ⌜ asAnswer r (now (out .exit)) ≡ rules-plan memMinMin (now (sheet .entry)) (now (out .entry)) ⌝ }
-    ensures { λ r. ⌜ Planned memMinMin (now (sheet .entry)) (now (out .entry)) (asAnswer r (now (out .exit))) ⌝ }
+    ensures { λ r. ⌜ PlannerDemands memMinMin (now (sheet .entry)) (now (out .entry)) (asAnswer r (now (out .exit))) ⌝ }
 {
     plan_sheet(Rule::MemMinMin, sheet, out)
 }

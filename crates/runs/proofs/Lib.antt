@@ -1,6 +1,6 @@
 -- The laws that the proofs of this crate cite.
 
+-- the lowest run of a list that overlaps another, and what a scan has passed
+pub mod FirstOverlapLaws
 -- a part of an array, lent as a slice
-pub mod Lent
--- what the walk of a list of runs finds
-pub mod Means
+pub mod SliceLaws

@@ -1,4 +1,4 @@
--- What the walk's answer means.
+-- The lowest run of a list that overlaps another of it.
 use Prim.Native.Nat.{ℕ, _<_, _≤_}
 use mathlib.Core.Path.{_≡_}
 use mathlib.Core.Bool.{true, false}

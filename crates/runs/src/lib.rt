@@ -1,13 +1,12 @@
 // The runs of a schedule as a list of records: a lent slice of them is walked by one thin function above a covered core.
-// Proved by hand, since each has a reference to a slice of structs: `first_overlap`, the walk, and `overlap_in`, which lends
-// it a part of an array. All else is covered.
+// Proved by hand, since each has a reference to a slice of structs: `first_overlap`, the walk, and `lowest_overlap`, which lends
+// it the first runs of an array. All else is covered.
 ghost use mathlib.Core.Path.{_≡_};
 ghost use Prim.Native.Nat.{_<_, _≤_};
-ghost use lib.ListN.{take};
-ghost use Rattle.rules.specs.Count.{firstBelow};
+ghost use lib.ListN.{length};
 ghost use Rattle.rules.specs.Limits.{maxTasks};
 ghost use Rattle.runs.specs.First.{FirstOverlap};
-ghost use Rattle.runs.specs.Scan.{overlapping, overlapsAt, lowestWith, nothingSeen, seenNext, scanned};
+ghost use Rattle.runs.specs.Scan.{overlapping, lowestWith, emptyScan, scanRun};
 use rules::Board;
 
 // A run of a task: on a processor, from its start until its finish.
@@ -18,10 +17,10 @@ pub struct Run {
 }
 
 // The runs passed so far, and the lowest index among them whose run overlaps another's, or n where none does.
-pub struct Seen {
-    pub runs: [Run; Board::MAX_TASKS],
-    pub n: usize,
-    pub first: usize,
+struct Scan {
+    runs: [Run; Board::MAX_TASKS],
+    n: usize,
+    first: usize,
 }
 
 // Whether two runs are on one processor and share an instant.
@@ -38,37 +37,22 @@ fn overlapping_runs(a: Run, b: Run) -> bool
     }
 }
 
-// The lowest index below n of a run that overlaps r, or n.
-fn first_hit(runs: [Run; Board::MAX_TASKS], n: usize, r: Run) -> usize
-    requires { ⌜ n ≤ maxTasks ⌝ }
-    ensures { λ h. ⌜ h ≡ firstBelow n (overlapsAt runs r) ⌝ }
-{
-    let mut i = 0;
-    while i < n {
-        if overlapping_runs(runs[i], r) {
-            return i;
-        }
-        i += 1;
-    }
-    i
-}
-
-// The lowest index once the run at n is seen too, where `hit` is the lowest that overlaps it.
-fn lowest(first: usize, n: usize, hit: usize) -> usize
+// The lowest index once the run at n is passed too, where `other` is the lowest whose run overlaps it, or n.
+fn lowest(first: usize, n: usize, other: usize) -> usize
     requires { ⌜ n < maxTasks ⌝ }
-    ensures { λ f. ⌜ f ≡ lowestWith first n hit ⌝ }
+    ensures { λ f. ⌜ f ≡ lowestWith first n other ⌝ }
 {
-    if hit < n {
-        if hit < first { hit } else { first }
+    if other < n {
+        if other < first { other } else { first }
     } else {
         if first < n { first } else { n + 1 }
     }
 }
 
-pub fn nothing_seen() -> Seen
-    ensures { λ r. ⌜ r ≡ nothingSeen ⌝ }
+fn empty_scan() -> Scan
+    ensures { λ r. ⌜ r ≡ emptyScan ⌝ }
 {
-    Seen {
+    Scan {
         runs: [Run {
             processor: 0,
             start: 0,
@@ -79,50 +63,47 @@ pub fn nothing_seen() -> Seen
     }
 }
 
-// One run more. The core's step, which `first_overlap` takes at each run.
-pub fn see(s: Seen, r: Run) -> Seen
-    ensures { λ t. ⌜ t ≡ seenNext s r ⌝ }
+// One run more is compared with those passed, stored and counted, where there is room for it. The core's step, which
+// `first_overlap` takes at each run.
+fn scan_run(mut s: Scan, r: Run) -> Scan
+    ensures { λ t. ⌜ t ≡ scanRun s r ⌝ }
 {
     let n = s.n;
-    if n < Board::MAX_TASKS {
-        let runs = s.runs;
-        let hit = first_hit(runs, n, r);
-        let first = lowest(s.first, n, hit);
-        let mut t = s;
-        t.runs[n] = r;
-        t.n = n + 1;
-        t.first = first;
-        t
-    } else {
-        s
+    if Board::MAX_TASKS <= n {
+        return s;
     }
+    let mut other = 0;
+    while other < n {
+        if overlapping_runs(s.runs[other], r) {
+            break;
+        }
+        other += 1;
+    }
+    s.first = lowest(s.first, n, other);
+    s.runs[n] = r;
+    s.n = n + 1;
+    s
 }
 
-// The thin function: it walks the lent runs, and leaves the work to `see`.
+// The thin function: it walks the lent runs, and leaves the work to `scan_run`. Of at most `Board::MAX_TASKS` runs it gives the
+// lowest index whose run overlaps another's, or the length where no two overlap.
 pub fn first_overlap(runs: &[Run]) -> usize
-    ensures { λ r. ⌜ r ≡ scanned nothingSeen (now (runs .entry)) .first ⌝ }
+    ensures { λ r. ⌜ (length (now (runs .entry)) ≤ maxTasks → FirstOverlap (now (runs .entry)) (length (now (runs .entry))) r) ⌝ }
 {
-    let mut seen = nothing_seen();
+    let mut scan = empty_scan();
     let mut i = 0;
     while i < runs.len() {
-        seen = see(seen, runs[i]);
+        scan = scan_run(scan, runs[i]);
         i += 1;
     }
-    seen.first
+    scan.first
 }
 
-// From an array to the lent slice: its contract has no reference, so whoever calls it needs no walk.
-pub fn overlap_in(all: [Run; Board::MAX_TASKS], n: usize) -> usize
-    requires { ⌜ n ≤ maxTasks ⌝ }
-    ensures { λ r. ⌜ r ≡ scanned nothingSeen (take n all) .first ⌝ }
-{
-    first_overlap(&all[..n])
-}
-
-// The lowest of the first n runs that overlaps another of them, or n.
+// The lowest of the first n runs of the array that overlaps another of them, or n. They are lent as a slice, and the contract has no
+// reference, so that a caller needs no walk.
 pub fn lowest_overlap(all: [Run; Board::MAX_TASKS], n: usize) -> usize
     requires { ⌜ n ≤ maxTasks ⌝ }
     ensures { λ r. ⌜ FirstOverlap all n r ⌝ }
 {
-    overlap_in(all, n)
+    first_overlap(&all[..n])
 }

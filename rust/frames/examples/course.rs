@@ -1,4 +1,4 @@
-// Plans the course example of document 01, and marks the plan.
+// Plans the course example (docs/RULES.md), and marks the plan.
 use frames::{mark, plan, Planner, Verdict};
 
 fn main() {

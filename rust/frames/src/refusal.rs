@@ -1,4 +1,4 @@
-//! The refusals of document 01, with their numbers, places and meaning.
+//! The refusals, with their numbers, places and meaning: those of docs/RULES.md and of include/frames.h.
 
 use std::fmt;
 
@@ -38,7 +38,7 @@ pub enum Refusal {
 use Refusal::*;
 
 impl Refusal {
-    /// The refusal of a number and a place; none for any other number, such as 0.
+    /// The refusal of a number and a place, if the number is listed; 0 and every other number is none.
     pub fn from_numbers(number: u64, place: u64) -> Option<Refusal> {
         Some(match number {
             1 => SheetTooLong,
@@ -59,7 +59,7 @@ impl Refusal {
         })
     }
 
-    /// Document 01's number and place.
+    /// Its number and place.
     pub fn numbers(self) -> (u64, u64) {
         match self {
             SheetTooLong => (1, 0),
@@ -102,3 +102,26 @@ impl fmt::Display for Refusal {
 }
 
 impl std::error::Error for Refusal {}
+
+#[cfg(test)]
+mod tests {
+    use super::*;
+
+    #[test]
+    fn numbers_and_back() {
+        let mut listed = 0;
+        for number in 0..1000 {
+            if let Some(refusal) = Refusal::from_numbers(number, 5) {
+                listed += 1;
+                let place = match number {
+                    1 | 11 | 18 => 0,
+                    _ => 5,
+                };
+                assert_eq!(refusal.numbers(), (number, place));
+            }
+        }
+        assert_eq!(listed, 14);
+        assert_eq!(Refusal::from_numbers(0, 0), None);
+        assert_eq!(Refusal::from_numbers(u64::MAX, 0), None);
+    }
+}

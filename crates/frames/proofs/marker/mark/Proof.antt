@@ -1,6 +1,6 @@
 -- `mark` meets its contract: the answer is the definition's, and so keeps the demands.
 use Rattle.instance.proofs.AcceptedLaws.{read-accepted, well-formed}
-use Rattle.frames.proofs.DemandLaws.{marked-ends, marked-exactly}
+use Rattle.frames.proofs.DemandLaws.{marker-demands}
 use Rattle.frames.proofs.MarkLaws.{marked-on, marked-refused}
 use borrow.Author.Needs.{needs}
 use Rattle.frames.proofs.marker.mark.Statement.{statement}
@@ -31,13 +31,13 @@ returns : tie.Need-returns
 returns c =
     let s = c .before .before .before .before .before .before .before .before .before in
     let v = marked-refused (s .args .sheet .now) (s .args .paper .now) _ (c .before .before .before .before .before .read .result) (c .before .before .before .before .before .read .ensures) (c .before .before .before .fault .given .1) (c .before .sheet-number .ensures) (c .refused .ensures) in
-    (v, (marked-ends (s .args .sheet .now) (s .args .paper .now) v, marked-exactly (s .args .sheet .now) (s .args .paper .now) v))
+    (v, marker-demands (s .args .sheet .now) (s .args .paper .now) v)
 
 returns-2 : tie.Need-returns-2
 returns-2 c =
     let s = c .before .before .before .before .before .before .before .before .before in
     let v = marked-on (s .args .sheet .now) (s .args .paper .now) _ (c .before .before .before .before .before .read .result) (c .before .before .before .before .before .read .ensures) (c .before .before .before .shape .given .1) (c .mark-paper .ensures) in
-    (v, (marked-ends (s .args .sheet .now) (s .args .paper .now) v, marked-exactly (s .args .sheet .now) (s .args .paper .now) v))
+    (v, marker-demands (s .args .sheet .now) (s .args .paper .now) v)
 
 pub mark-spec : {M : Type 1} → statement M
 mark-spec =

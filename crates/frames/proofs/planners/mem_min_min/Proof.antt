@@ -1,6 +1,6 @@
 -- `mem_min_min` meets its contract: the answer and the buffer are the definition's, and so keep the demands.
 use Rattle.rules.specs.Scheduling.{memMinMin}
-use Rattle.frames.proofs.DemandLaws.{planned}
+use Rattle.frames.proofs.DemandLaws.{planner-demands}
 use borrow.Author.Needs.{needs}
 use Rattle.frames.proofs.planners.mem_min_min.Statement.{statement}
 use Rattle.frames.proofs.planners.mem_min_min.Tie as tie
@@ -12,7 +12,10 @@ same-length : tie.Need-same-length
 same-length c = search needs
 
 returns : tie.Need-returns
-returns c = let s = c .before .before .before .before .before .before in (c .before .before .plan-sheet .ensures, planned memMinMin (s .args .sheet .now) (s .args .out .now) (c .before .before .plan-sheet .ensures))
+returns c =
+    let s = c .before .before .before .before .before .before in
+    let e = c .before .before .plan-sheet .ensures in
+    (e, planner-demands memMinMin (s .args .sheet .now) (s .args .out .now) e)
 
 pub mem-min-min-spec : {M : Type 1} → statement M
 mem-min-min-spec = tie.close (tie.spec plan-sheet-requires same-length returns)

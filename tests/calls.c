@@ -1,0 +1,205 @@
+/* What include/frames.h says of the calls beside their answers: NULL with length 0, bytes that stay, the stack that is used, calls on
+ * several threads at once. Prints what it found, and fails at the first difference. */
+#include <pthread.h>
+#include <stdio.h>
+#include <stdlib.h>
+#include <string.h>
+
+#include "frames.h"
+
+typedef struct {
+    const uint8_t *bytes;
+    size_t len;
+} text;
+
+static text as_text(const char *s) {
+    text t = {(const uint8_t *)s, strlen(s)};
+    return t;
+}
+
+static const char course[] =
+    "(board (blue 1 6) (red 1 6))\n(task 1 4 2)\n(task 2 3 5)\n(task 3 2 6)\n(file 1 2 2 1)\n(file 1 3 3 2)\n";
+static const char paper[] = "(run 1 2 0)\n(run 2 1 3)\n(run 3 1 6)\n(move 1 2 2)\n(move 1 3 4)\n(claim 8 5 5)\n";
+
+static void expect(const char *what, const uint64_t *got, size_t n, const uint64_t *want) {
+    for (size_t i = 0; i < n; i++) {
+        if (got[i] != want[i]) {
+            printf("%s: number %zu of the result is %llu, not %llu\n", what, i, (unsigned long long)got[i], (unsigned long long)want[i]);
+            exit(1);
+        }
+    }
+}
+
+#define EXPECT(what, got, ...) expect(what, got, sizeof got / sizeof got[0], (const uint64_t[]){__VA_ARGS__})
+
+static void expect_that(const char *what, int holds) {
+    if (!holds) {
+        printf("%s: not so\n", what);
+        exit(1);
+    }
+}
+
+/* NULL stands for a text or a buffer of length 0; the line and the timetable are written at the front alone, and only if they fit. */
+static void null_and_short(void) {
+    text sheet = as_text(course);
+    uint64_t verdict[5];
+    uint64_t answer[3];
+    uint8_t line[40];
+    uint8_t out[100];
+    frames_mark(NULL, 0, NULL, 0, verdict);
+    EXPECT("no sheet, no paper", verdict, FRAMES_SHEET_MALFORMED, 1, 0, 0, 0);
+    frames_mark(sheet.bytes, sheet.len, NULL, 0, verdict);
+    EXPECT("no paper", verdict, FRAMES_PAPER_MALFORMED, 1, 0, 0, 0);
+    frames_mark(sheet.bytes, sheet.len, sheet.bytes, sheet.len, verdict);
+    EXPECT("one text as both", verdict, FRAMES_PAPER_MALFORMED, 1, 0, 0, 0);
+    expect_that("no sheet, no line", frames_fault_line(NULL, 0, NULL, 0, NULL, 0) == 0);
+    expect_that("length of a line that has no room", frames_fault_line(sheet.bytes, sheet.len, (const uint8_t *)"(run)\n", 6, NULL, 0) == 5);
+    memset(line, 7, sizeof line);
+    expect_that("a line in 4 bytes", frames_fault_line(sheet.bytes, sheet.len, (const uint8_t *)"(run)\n", 6, line, 4) == 5 && line[0] == 7);
+    expect_that("a line in 5 bytes",
+                frames_fault_line(sheet.bytes, sheet.len, (const uint8_t *)"(run)\n", 6, line, 5) == 5 && memcmp(line, "(run)\7", 6) == 0);
+    frames_mem_heft(NULL, 0, NULL, 0, answer);
+    EXPECT("no sheet to plan", answer, FRAMES_SHEET_MALFORMED, 1, 0);
+    frames_mem_heft(sheet.bytes, sheet.len, NULL, 0, answer);
+    EXPECT("MemHEFT, no buffer", answer, FRAMES_BUFFER_TOO_SHORT, 76, 6);
+    frames_mem_min_min(sheet.bytes, sheet.len, NULL, 0, answer);
+    EXPECT("MemMinMin, no buffer", answer, FRAMES_BUFFER_TOO_SHORT, 76, 8);
+    memset(out, 7, sizeof out);
+    frames_mem_heft(sheet.bytes, sheet.len, out, 75, answer);
+    EXPECT("MemHEFT, a byte too short", answer, FRAMES_BUFFER_TOO_SHORT, 76, 6);
+    expect_that("the short buffer stays", out[0] == 7 && out[74] == 7);
+    frames_mem_heft(sheet.bytes, sheet.len, out, sizeof out, answer);
+    EXPECT("MemHEFT", answer, FRAMES_OK, 76, 6);
+    expect_that("the timetable, and the byte behind it", memcmp(out, paper, 76) == 0 && out[76] == 7);
+}
+
+/* The largest sheet: 64 tasks and 256 files, and a timetable that moves every file, makers on processor 1 and readers on processor 9. */
+static char large[FRAMES_MAX_TEXT];
+static char large_paper[FRAMES_MAX_TEXT];
+
+static void make_large(void) {
+    char *s = large;
+    char *p = large_paper;
+    s += sprintf(s, "(board (blue 8 999999999) (red 8 999999999))\n");
+    for (int i = 1; i <= 64; i++) {
+        s += sprintf(s, "(task %d 1000000 1000000)\n", i);
+        p += sprintf(p, "(run %d %d %d)\n", i, i <= 32 ? 1 : 9, 1000000 * (i + (i <= 32 ? 0 : 1)));
+    }
+    for (int i = 1; i <= 32; i++) {
+        for (int j = 33; j <= 40; j++) {
+            s += sprintf(s, "(file %d %d 1000000 1000000)\n", i, j);
+            p += sprintf(p, "(move %d %d 33000000)\n", i, j);
+        }
+    }
+    sprintf(p, "(claim 66000000 256000000 256000000)\n");
+}
+
+/* The calls that are measured. Each keeps its answer in `last`. */
+static uint64_t last[5];
+static uint8_t room[FRAMES_MAX_TEXT];
+
+static void *call_mark(void *unused) {
+    (void)unused;
+    text s = as_text(large), p = as_text(large_paper);
+    frames_mark(s.bytes, s.len, p.bytes, p.len, last);
+    return NULL;
+}
+
+static void *call_fault_line(void *unused) {
+    (void)unused;
+    text s = as_text(large), p = as_text(large_paper);
+    last[0] = frames_fault_line(s.bytes, s.len, p.bytes, p.len, room, sizeof room);
+    return NULL;
+}
+
+static void *call_mem_heft(void *unused) {
+    (void)unused;
+    text s = as_text(large);
+    frames_mem_heft(s.bytes, s.len, room, sizeof room, last);
+    return NULL;
+}
+
+static void *call_mem_min_min(void *unused) {
+    (void)unused;
+    text s = as_text(large);
+    frames_mem_min_min(s.bytes, s.len, room, sizeof room, last);
+    return NULL;
+}
+
+static void *call_nothing(void *unused) {
+    return unused;
+}
+
+/* The bytes of a painted stack that a thread has written to. */
+static size_t stack_of(void *(*call)(void *)) {
+    static uint8_t stack[1 << 20] __attribute__((aligned(4096)));
+    pthread_attr_t attributes;
+    pthread_t thread;
+    memset(stack, 0xA5, sizeof stack);
+    if (pthread_attr_init(&attributes) || pthread_attr_setstack(&attributes, stack, sizeof stack)
+        || pthread_create(&thread, &attributes, call, NULL) || pthread_join(thread, NULL)) {
+        puts("a thread could not be run");
+        exit(1);
+    }
+    size_t untouched = 0;
+    while (untouched < sizeof stack && stack[untouched] == 0xA5) untouched++;
+    return sizeof stack - untouched;
+}
+
+/* What a call on the largest sheet uses beyond what an empty thread does. */
+static size_t measured(const char *what, void *(*call)(void *)) {
+    last[0] = 99;
+    size_t used = stack_of(call) - stack_of(call_nothing);
+    if (last[0] != 0 || used > FRAMES_STACK) {
+        printf("%s: answered %llu, with %zu bytes of stack\n", what, (unsigned long long)last[0], used);
+        exit(1);
+    }
+    return used;
+}
+
+static void stacks(void) {
+    size_t mark = measured("frames_mark", call_mark);
+    size_t line = measured("frames_fault_line", call_fault_line);
+    size_t heft = measured("frames_mem_heft", call_mem_heft);
+    size_t min_min = measured("frames_mem_min_min", call_mem_min_min);
+    printf("stack on the largest sheet, in bytes: marker %zu, line at fault %zu, MemHEFT %zu, MemMinMin %zu\n", mark, line, heft, min_min);
+}
+
+/* Calls on several threads at once give what each gives alone. */
+static void *many_calls(void *unused) {
+    for (int i = 0; i < 200; i++) {
+        uint8_t out[FRAMES_MAX_TEXT];
+        uint64_t answer[3];
+        uint64_t verdict[5];
+        text sheet = as_text(course);
+        if (i % 2 == 0) {
+            frames_mem_heft(sheet.bytes, sheet.len, out, sizeof out, answer);
+            EXPECT("MemHEFT beside others", answer, FRAMES_OK, 76, 6);
+        } else {
+            frames_mem_min_min(sheet.bytes, sheet.len, out, sizeof out, answer);
+            EXPECT("MemMinMin beside others", answer, FRAMES_OK, 76, 8);
+        }
+        frames_mark(sheet.bytes, sheet.len, out, answer[1], verdict);
+        EXPECT("the marker beside others", verdict, FRAMES_OK, 0, 8, 5, 5);
+    }
+    return unused;
+}
+
+static void threads(void) {
+    pthread_t all[4];
+    for (int i = 0; i < 4; i++) {
+        if (pthread_create(&all[i], NULL, many_calls, NULL)) exit(1);
+    }
+    for (int i = 0; i < 4; i++) {
+        if (pthread_join(all[i], NULL)) exit(1);
+    }
+}
+
+int main(void) {
+    null_and_short();
+    make_large();
+    stacks();
+    threads();
+    puts("calls from C: NULL, short buffers, stack and threads as include/frames.h says");
+    return 0;
+}
