@@ -1,6 +1,6 @@
 -- One turn of each loop over the files or the tasks, and what it comes to after all of them; and what the accessors read.
 use Prim.Native.Nat.{ℕ, _+_, _≤_, _<_, min}
-use mathlib.Core.Bool.{Bool, true, false, not, cond, _||_}
+use mathlib.Core.Bool.{Bool, true, false, cond}
 use mathlib.Core.Path.{_≡_, sym, ap, _∙_}
 use native.Mathlib.Omega.{arith}
 use native.Mathlib.Decide.{ℕ-discrete}
@@ -10,12 +10,12 @@ use lib.ListN.{length, set}
 use lib.Seq.{getD-set-same, getD-set-other}
 use borrow.Author.Tests.{le-ltb}
 use Rattle.rules.specs.Count.{firstBelow}
-use Rattle.rules.specs.Model.{Colour, blue, red, sameColour, Instance, Schedule, taskCount, fileCount, startAt, finishAt}
+use Rattle.rules.specs.Model.{Colour, blue, red, Instance, Schedule, taskCount, fileCount, finishAt}
 use Rattle.rules.specs.Residency.{held}
 use Rattle.rules.specs.Validity.{overlaps, early, readsEarly, over}
 use Rattle.model.specs.declared.layout.Shape.{Shape}
-use Rattle.model.specs.Layout.{Job, Entries, Bounds, instanceFrom, scheduleFrom, colourBy}
-use Rattle.model.proofs.LayoutLaws.{file-count, task-count, maker-at, reader-at, move-time-at, run-at, move-at, limit-of, isBlue, moved-at}
+use Rattle.model.specs.Layout.{Job, Entries, Bounds, instanceFrom, scheduleFrom}
+use Rattle.model.proofs.LayoutLaws.{file-count, task-count, reader-at, run-at, limit-of}
 use Rattle.claims.specs.Starts.{startIn}
 use Rattle.runs.specs.declared.Run.{Run}
 use Rattle.runs.specs.First.{FirstOverlap}
@@ -23,7 +23,7 @@ use Rattle.runs.specs.Scan.{noRun}
 use Rattle.validator.specs.Least.{leastWhere}
 use Rattle.validator.specs.Records.{recordAt, Records}
 use Rattle.validator.specs.OverLimit.{overAtStart, firstOverIn}
-use Rattle.validator.proofs.EarlyLaws.{readerOf, early-is, first-early}
+use Rattle.validator.proofs.EarlyLaws.{readerOf, first-early}
 use Rattle.validator.proofs.LeastLaws.{least-turn}
 use Rattle.validator.proofs.OverlapLaws.{lowest-overlapping}
 use Rattle.validator.proofs.OverLaws.{over-by, over-is, first-over}
@@ -56,32 +56,14 @@ module _ {b : Shape} {J : Job} {L : Entries} (f : Bounds b J L) where
 
   -- ---- 16
 
-  module _ {k : ℕ} (h : k < b .files) where
-    abbrev m : ℕ
-    m = J .maker k
-
-    abbrev d : ℕ
-    d = J .reader k
-
-    -- whether a file is early, from what the accessors read
-    module _ {i j made departs takes starts : ℕ} {from to s : Bool} (maker : i ≡ m) (reader : j ≡ d)
-        (from-is : from ≡ isBlue b L i) (to-is : to ≡ isBlue b L j) (moves : s ≡ sameColour (colourBy from) (colourBy to))
-        (leaves : departs ≡ L .moveStart k) (time : takes ≡ J .moveTime k) (made-is : made ≡ finishAt I P i) (starts-is : starts ≡ L .start j) where
-      pub early-from : {r : Bool} → r ≡ cond (not s) (ltb departs made || ltb starts (departs + takes)) (ltb starts made) → r ≡ early I P k
-      early-from e = e ∙ early-is I P k
-          (moved-at f h s (rw (moves, from-is, to-is, maker, reader)))
-          (made-is ∙ ap (finishAt I P) (maker ∙ sym (maker-at b J k h)))
-          (leaves ∙ sym (move-at b L k h))
-          (omega (arith, leaves, time, move-at b L k h, move-time-at b J k h))
-          (starts-is ∙ ap (L .start) reader ∙ sym (ap (λ r. r .start) (run-at b L d (f .job .reader k h))) ∙ ap (startAt P) (sym (reader-at b J k h)))
-
-    pub early-turn : (n : ℕ) {x : Bool} {j r : ℕ} → x ≡ early I P k → j ≡ J .reader k → r ≡ cond x j n
-        → leastWhere (k + 1) n (early I P) (readerOf I) ≡ min (leastWhere k n (early I P) (readerOf I)) r
-    early-turn n g q e = least-turn n (early I P) (readerOf I) k e g (q ∙ sym (reader-at b J k h))
+  pub early-turn : {k : ℕ} → k < b .files → (n : ℕ) {x : Bool} {j r : ℕ} → x ≡ early I P k → j ≡ J .reader k → r ≡ cond x j n
+      → leastWhere (k + 1) n (early I P) (readerOf I) ≡ min (leastWhere k n (early I P) (readerOf I)) r
+  early-turn {k} h n g q e = least-turn n (early I P) (readerOf I) k e g (q ∙ sym (reader-at b J k h))
 
   pub early-total : {n : ℕ} → n ≡ b .files → leastWhere n (b .tasks) (early I P) (readerOf I) ≡ firstBelow (taskCount I) (readsEarly I P)
   early-total {n} e =
-      let z : leastWhere n (b .tasks) (early I P) (readerOf I) ≡ leastWhere (fileCount I) (taskCount I) (early I P) (readerOf I) = rw (file-count b J, task-count b J, e) in
+      let z : leastWhere n (b .tasks) (early I P) (readerOf I) ≡ leastWhere (fileCount I) (taskCount I) (early I P) (readerOf I) =
+      rw (file-count b J, task-count b J, e) in
       z ∙ first-early I P
 
   -- ---- 17
