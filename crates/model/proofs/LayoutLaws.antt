@@ -6,7 +6,8 @@ use mathlib.Core.Path.{_≡_, refl, sym, ap, _∙_}
 use native.Mathlib.Omega.{arith}
 use lib.Dec.{leb, eqb}
 use lib.ListN.{getD}
-use Rattle.rules.specs.Model.{blue, red, Instance, Schedule, Task, fileAt, fileCount, taskAt, taskCount, limitOf, sideOf, timeOn, runAt, moveAt, sizeAt, moveTimeAt, finishAt}
+use Rattle.rules.specs.Model.{blue, red, Instance, Task, fileAt, fileCount, taskAt, taskCount, limitOf, sideOf, timeOn, sizeAt, moveTimeAt}
+use Rattle.rules.specs.Model.{Schedule, runAt, moveAt, finishAt}
 use Rattle.rules.specs.Scheduling.{reads, makes, finishOn}
 use Rattle.rules.specs.Limits.{processorCounts, runTimes}
 use Rattle.rules.specs.Promises.{In, WellFormed}
@@ -88,7 +89,8 @@ module _ (b : Shape) (L : Entries) where
   move-at k h = getD-listBelow (b .files) (λ k. L .moveStart k) k 0 h
 
   -- the last finish of each processor
-  pub last-finish-at : (last : List ℕ) (p : ℕ) → p < b .board .blue .processors + b .board .red .processors → getD (partialFrom b L last .lastFinish) p 0 ≡ getD last p 0
+  pub last-finish-at : (last : List ℕ) (p : ℕ) → p < b .board .blue .processors + b .board .red .processors
+      → getD (partialFrom b L last .lastFinish) p 0 ≡ getD last p 0
   last-finish-at last p h = getD-listBelow (b .board .blue .processors + b .board .red .processors) (λ p. getD last p 0) p 0 h
 
 module _ {b : Shape} {J : Job} {L : Entries} (f : Bounds b J L) where

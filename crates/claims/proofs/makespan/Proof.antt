@@ -34,9 +34,12 @@ loop-less : tie.Need-loop-less Inv-loop μ-loop
 loop-less c = search needs
 
 loop-again : tie.Need-loop-again Inv-loop μ-loop
-loop-again c = let s = c .before .before .before .before .before in
-    let i = c .before .before .before .before .loop .i in
-    omega (arith, max-next (finishAt (instanceFrom (s .args .shape) (jobOf (s .args .job .now))) (scheduleFrom (s .args .shape) (entriesOf (s .args .schedule .now)))) i, c .before .finish .ensures .0)
+loop-again c =
+    let l = c .before .before .before .before in
+    let s = l .before in
+    let I = instanceFrom (s .args .shape) (jobOf (s .args .job .now)) in
+    let P = scheduleFrom (s .args .shape) (entriesOf (s .args .schedule .now)) in
+    omega (arith, max-next (finishAt I P) (l .loop .i), c .before .finish .ensures .0)
 
 returns : tie.Need-returns Inv-loop μ-loop
 returns c = let s = c .before .before .before in

@@ -59,8 +59,9 @@ returns c =
     let h = s .pre .1 in
     let maker : m .maker .result < s .args .shape .tasks = omega (arith, s .pre .0 .job .maker k h, m .maker .ensures) in
     let reader : d .reader .result < s .args .shape .tasks = omega (arith, s .pre .0 .job .reader k h, d .reader .ensures) in (
-      times-from (s .pre .0 .job) (entriesOf (s .args .schedule .now)) h (m .maker .ensures) (d .reader .ensures) (b .before .moves .ensures)
-          (b .start .ensures) (t .before .finish .ensures .0) (v .move-start .ensures) (t .move-time .ensures) (c .before .start2 .ensures) (c .release .ensures .0),
+      times-from (s .pre .0 .job) (entriesOf (s .args .schedule .now)) h (m .maker .ensures) (d .reader .ensures)
+          (b .before .moves .ensures) (b .start .ensures) (t .before .finish .ensures .0) (v .move-start .ensures) (t .move-time .ensures)
+          (c .before .start2 .ensures) (c .release .ensures .0),
       record {
         begun = omega (arith, b .start .ensures, s .pre .0 .schedule .start _ maker);
         made = t .before .finish .ensures .1;

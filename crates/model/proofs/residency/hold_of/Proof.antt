@@ -50,7 +50,8 @@ returns c =
     let h = s .pre .1 in
     let times = c .before .file-times .ensures in (
       c .hold-when .ensures .0
-          ∙ hold-from I (scheduleFrom (s .args .shape) L) (colourBy (s .args .colour)) (times .0) (maker-placed f L h (m .maker .ensures) (p .processor .ensures))
+          ∙ hold-from I (scheduleFrom (s .args .shape) L) (colourBy (s .args .colour)) (times .0)
+          (maker-placed f L h (m .maker .ensures) (p .processor .ensures))
           (reader-placed f L h (d .reader .ensures) (x .before .processor2 .ensures))
           (maker-here f L h (m .maker .ensures) (s .args .colour) (x .on-blue .ensures) (c .before .before .same-colour .ensures)),
       omega (arith, c .hold-when .ensures .1, times .1),

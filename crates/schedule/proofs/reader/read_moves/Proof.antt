@@ -54,7 +54,9 @@ enum-known-start : tie.Need-enum-known-start Inv-loop μ-loop
 enum-known-start c = search needs
 
 add-store : tie.Need-add-store Inv-loop μ-loop
-add-store c = let x = c .before .before .before .before .before .before .before .before in omega (arith, x .before .before .before .before .before .before .pre .0 .files)
+add-store c =
+    let x = c .before .before .before .before .before .before .before .before in
+    omega (arith, x .before .before .before .before .before .before .pre .0 .files)
 
 store-requires : tie.Need-store-requires Inv-loop μ-loop
 store-requires c κs =

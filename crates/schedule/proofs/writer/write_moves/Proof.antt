@@ -13,7 +13,8 @@ use Rattle.schedule.proofs.writer.write_moves.Statement.{statement}
 use Rattle.schedule.proofs.writer.write_moves.Tie as tie
 
 abbrev Inv-loop : tie.InvT-loop
-Inv-loop shape job schedule out₀ at₀ k₀ out at k = Laid (moveLines (instanceFrom shape (jobOf job)) (scheduleFrom shape (entriesOf schedule))) (shape .files) out₀ out at k
+Inv-loop shape job schedule out₀ at₀ k₀ out at k =
+    Laid (moveLines (instanceFrom shape (jobOf job)) (scheduleFrom shape (entriesOf schedule))) (shape .files) out₀ out at k
 
 abbrev μ-loop : tie.MeasureT-loop
 μ-loop shape job schedule out₀ at₀ k₀ out at k = shape .files - k
