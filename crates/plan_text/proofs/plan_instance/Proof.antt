@@ -1,12 +1,11 @@
 -- `plan_instance` meets its contract: a stuck planner's answer, or what a complete schedule's writing answers.
-use mathlib.Core.Path.{refl, sym, ap, _∙_}
+use mathlib.Core.Path.{refl}
 use Rattle.rules.proofs.OutcomeLaws.{completed-spellable}
 use Rattle.model.specs.Layout.{jobOf, entriesOf, instanceFrom, scheduleFrom}
 use Rattle.model.proofs.LayoutLaws.{job-bounds}
 use Rattle.model.proofs.SpelledLaws.{spelled-placed, spelled-bounds}
 use Rattle.planner.specs.Outcomes.{asPlanner}
-use Rattle.rules.specs.Calls.{planMade}
-use Rattle.plan_text.proofs.AnswerLaws.{made-stuck, made-complete}
+use Rattle.plan_text.proofs.AnswerLaws.{made-stuck, made-complete, made-written}
 use borrow.Author.Needs.{needs}
 use Rattle.plan_text.proofs.plan_instance.Statement.{statement}
 use Rattle.plan_text.proofs.plan_instance.Tie as tie
@@ -49,8 +48,8 @@ returns-2 c =
     let r = t .before .before in
     let s = r .before .before .before in
     let I = instanceFrom (s .args .shape) (jobOf (s .args .job .now)) in
-    let o = made-complete (asPlanner (s .args .rule)) I (s .args .out .now) _ (r .run .result) (r .run .ensures) (t .trials .given .1) in
-    c .before .before .write-plan .ensures ∙ sym (ap (planMade I (s .args .out .now)) o)
+    let w = c .before .before .write-plan .ensures in
+    made-written (asPlanner (s .args .rule)) I (s .args .out .now) _ (r .run .result) (r .run .ensures) (t .trials .given .1) w
 
 pub plan-instance-spec : {M : Type 1} → statement M
 plan-instance-spec =
