@@ -1,80 +1,78 @@
-// framemark SHEET PAPER: marks the timetable of the file PAPER on the board sheet of the file SHEET.
-use console::print_number;
-use console::print_refusal;
+// framemark SHEET PAPER ..: marks the timetable of each file PAPER on the board sheet of the file SHEET.
+use console::Input;
+use console::print_verdict;
+use console::read_argument;
+use console::read_file;
+use console::report;
+use console::write_escaped;
+use libc::STDERR_FILENO;
 use libc::STDOUT_FILENO;
 
-// Opens the file that an argument names; says why where that fails, and answers -1.
-fn open_argument(i: usize) -> i32 {
-    let mut path = io::buffer();
-    let n = os::arg(i, &mut path);
-    if os::errno() != 0 {
-        os::fail(b"framemark");
-        return -1;
-    }
-    let fd = os::open_read(&path[..n]);
-    if fd < 0 {
-        os::fail(&path[..n]);
-    }
-    fd
-}
-
-// Whether the file could be read so far: a read that fails is no end of the file.
-fn readable(fd: i32) -> bool {
-    let mut one = [0u8; 1];
-    if libc::read(fd, &mut one) < 0 {
-        os::fail(b"framemark");
+// Prints the verdict, and the line at fault under a refusal. Nothing is printed for a line at fault that is absent or empty.
+// Returns whether all was written.
+fn print_marks<'a>(sheet: &'a [u8], paper: &'a [u8]) -> bool {
+    if !print_verdict(frames::mark(sheet, paper)) {
         return false;
     }
-    true
+    let line = frames::fault_line(sheet, paper);
+    if line.len() == 0 {
+        return true;
+    }
+    write_escaped(STDOUT_FILENO, line) && io::write_all(STDOUT_FILENO, b"\n")
 }
 
-// Prints the verdict, and for a fault of a text the line at fault.
-fn print_marks<'a>(sheet: &'a [u8], paper: &'a [u8]) {
-    let v = frames::mark(sheet, paper);
-    if v.number == 0 {
-        io::write_all(STDOUT_FILENO, b"(accepted");
-        print_number(v.span);
-        print_number(v.blue_peak);
-        print_number(v.red_peak);
-        io::write_all(STDOUT_FILENO, b")\n");
-        return;
-    }
-    print_refusal(v.number, v.place);
-    if v.number < 15 {
-        io::write_all(STDOUT_FILENO, frames::fault_line(sheet, paper));
-        io::write_all(STDOUT_FILENO, b"\n");
-    }
+// Prints a paper's name and its verdict on one line: one line for each paper, also where it is the sheet that is refused.
+// Returns whether all was written.
+fn print_named_marks<'a>(name: &'a [u8], sheet: &'a [u8], paper: &'a [u8]) -> bool {
+    write_escaped(STDOUT_FILENO, name)
+        && io::write_all(STDOUT_FILENO, b" ")
+        && print_verdict(frames::mark(sheet, paper))
 }
 
-// Marks what the two files hold. Each buffer is longer than a text may be, so a file that fills it is refused as too long.
-fn mark_files(sheet_file: i32, paper_file: i32) {
-    let mut sheet = io::large_buffer();
-    let m = io::read_full(sheet_file, &mut sheet);
-    if !readable(sheet_file) {
-        return;
+// Marks the paper that argument `i` names, one of several or the only one. Returns whether what it prints was written: a paper that
+// cannot be read prints nothing here. The buffers for texts are longer than a text may be, so a file that fills one is refused as too long.
+fn mark_argument(sheet: &[u8], i: usize, several: bool) -> bool {
+    let mut path = io::buffer();
+    let Input::Bytes(n) = read_argument(b"framemark", i, &mut path) else {
+        return true;
+    };
+    let name = &path[..n];
+    let mut text = io::large_buffer();
+    let Input::Bytes(m) = read_file(b"framemark", name, &mut text) else {
+        return true;
+    };
+    let paper = &text[..m];
+    if several {
+        return print_named_marks(name, sheet, paper);
     }
-    let mut paper = io::large_buffer();
-    let n = io::read_full(paper_file, &mut paper);
-    if !readable(paper_file) {
-        return;
+    print_marks(sheet, paper)
+}
+
+// Marks the papers of the arguments from 2 to the last. Stops when a verdict cannot be written.
+fn mark_arguments(sheet: &[u8], count: usize) {
+    let mut i = 2;
+    while i < count {
+        if !mark_argument(sheet, i, 3 < count) {
+            report(b"framemark", b"standard output");
+            return;
+        }
+        i += 1;
     }
-    print_marks(&sheet[..m], &paper[..n]);
 }
 
 fn main() {
-    if os::arg_count() != 3 {
-        io::write_all(STDOUT_FILENO, b"usage: framemark SHEET PAPER\n");
+    let count = os::arg_count();
+    if count < 3 {
+        io::write_all(STDERR_FILENO, b"usage: framemark SHEET PAPER ..\n");
         return;
     }
-    let sheet = open_argument(1);
-    if sheet < 0 {
+    let mut path = io::buffer();
+    let Input::Bytes(n) = read_argument(b"framemark", 1, &mut path) else {
         return;
-    }
-    let paper = open_argument(2);
-    if paper < 0 {
+    };
+    let mut text = io::large_buffer();
+    let Input::Bytes(m) = read_file(b"framemark", &path[..n], &mut text) else {
         return;
-    }
-    mark_files(sheet, paper);
-    libc::close(paper);
-    libc::close(sheet);
+    };
+    mark_arguments(&text[..m], count);
 }

@@ -39,7 +39,8 @@ module _ (sheet timetable xs : List ℕ) (r : InstanceRead) (read : asInstance r
   pub marked-on : {b : Shape} {v : Verdict} → r ≡ SheetRead.Accepted b → v ≡ markOn (instanceFrom b (jobOf xs)) timetable → v ≡ mark sheet timetable
   marked-on e q = q ∙ sym (mark-accepted sheet timetable _ (read-accepted sheet r xs read _ e))
 
-  pub marked-refused : {f : Fault} {k n : ℕ} {v : Verdict} → r ≡ SheetRead.Refused f k → n ≡ faultNumber inSheet (asFault f) → v ≡ refusedBy n k → v ≡ mark sheet timetable
+  pub marked-refused : {f : Fault} {k n : ℕ} {v : Verdict} → r ≡ SheetRead.Refused f k → n ≡ faultNumber inSheet (asFault f) → v ≡ refusedBy n k
+      → v ≡ mark sheet timetable
   marked-refused {k = k} e p q = q ∙ rw p (sym (mark-refused sheet timetable k (read-refused sheet r xs read _ _ e)))
 
 -- ---- the line at fault

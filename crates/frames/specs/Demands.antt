@@ -41,7 +41,7 @@ pub record PlannerDemands (R : Planner) (sheet buffer : List ℕ) (a : Answer) :
   pub exactly : (I : Instance) → readInstance sheet ≡ accepted I → PlannedExactly R I buffer a
   -- 1 to 4 at k exactly if the sheet has that fault first, at line k. Not: one fixed number for every sheet refused
   pub sheetFault : (w : Fault) (k : ℕ) → ((a .number ≡ faultNumber inSheet w) × (a .place ≡ k)) ↔ SheetFault sheet w k
-  -- a buffer as long as a text may be is never too short. Not: 31 while the text fits
+  -- a buffer as long as a text may be is never too short. Not: 31 whatever the buffer
   pub roomy : maxText ≤ length buffer → a .number ≡ 31 → ⊥
   -- what was written is accepted when read back, with the span and peaks it claims. Not: one line only. Alone it is met by a planner that never succeeds
   pub readBack : a .number ≡ 0 → AcceptedBack R sheet buffer a

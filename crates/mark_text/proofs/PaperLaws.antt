@@ -23,7 +23,8 @@ module _ (I : Instance) (timetable : List ℕ) (P : Schedule) (r : ScheduleRead)
   pub paper-judged : {c : Claim} {v : Verdict} → r ≡ PaperRead.Read c → v ≡ judge I P (asClaim c) → v ≡ markOn I timetable
   paper-judged e q = q ∙ sym (ap (markRead I) (paper-read e))
 
-  pub paper-refused : {f : Fault} {k n : ℕ} {v : Verdict} → r ≡ PaperRead.Refused f k → n ≡ faultNumber inTimetable (asFault f) → v ≡ refusedBy n k → v ≡ markOn I timetable
+  pub paper-refused : {f : Fault} {k n : ℕ} {v : Verdict} → r ≡ PaperRead.Refused f k → n ≡ faultNumber inTimetable (asFault f) → v ≡ refusedBy n k
+      → v ≡ markOn I timetable
   paper-refused {f} {k} e p q =
       let u : readSchedule I timetable ≡ Paper.refused (asFault f) k = sym read ∙ rw e in
       q ∙ rw p (sym (ap (markRead I) u))

@@ -44,7 +44,8 @@ fn round<'a>(
     requires { ⌜ LastBounds shape (now last) ⌝ }
     requires { ⌜ OrderBounds shape (now order) ⌝ }
     requires { ⌜ listBelow (shape .tasks) (λ p. getD (now order) p 0) ≡ byWeight (instanceOf shape (now job)) (taskCount (instanceOf shape (now job))) ⌝ }
-    ensures { λ r. ⌜ asRound r ≡ roundOf (asPlanner rule) (instanceOf shape (now (job .entry))) (partialOf shape (now (schedule .entry)) (now (last .entry))) ⌝ }
+    ensures { λ r. ⌜ asRound r
+        ≡ roundOf (asPlanner rule) (instanceOf shape (now (job .entry))) (partialOf shape (now (schedule .entry)) (now (last .entry))) ⌝ }
     ensures { λ r. ⌜ ChoiceBounds shape (r .choice) × (r .trials ≤ 2 * shape .tasks) ⌝ }
 {
     match rule {

@@ -1,6 +1,6 @@
 -- The laws that the proofs of this crate cite.
 
 -- the bound of a weight, and one turn of each loop that computes them
-pub mod WeightSteps
--- a task put to its place
-pub mod ListLaws
+pub mod WeightLaws
+-- a task put to its position
+pub mod InsertionLaws

@@ -3,9 +3,14 @@ use Prim.Native.Nat.{ℕ, _+_, _*_, _≤_, _<_}
 use mathlib.Core.List.{List}
 use mathlib.Core.Path.{_≡_}
 use lib.ListN.{getD}
+use Rattle.rules.specs.Count.{maxWhere}
 use Rattle.rules.specs.Limits.{maxTasks, runTimes, moveTimes}
-use Rattle.rules.specs.Model.{Instance, taskCount}
-use Rattle.rules.specs.Scheduling.{weight}
+use Rattle.rules.specs.Model.{Instance, taskCount, fileCount, fileAt, moveTimeAt}
+use Rattle.rules.specs.Scheduling.{makes, weight}
+
+-- the greatest, over the files that task i makes, of move time plus reader's weight; 0 if it makes none
+abbrev pub heaviestReader : Instance → ℕ → ℕ
+heaviestReader I i = maxWhere (fileCount I) (makes I i) (λ k. moveTimeAt I k + weight I (fileAt I k .reader))
 
 -- what one task of a chain adds to a weight, at most
 abbrev pub mostStep : ℕ

@@ -2,12 +2,10 @@
 ghost use mathlib.Core.Path.{_≡_};
 ghost use Prim.Native.Nat.{ℕ, _+_, _<_};
 ghost use lib.ListN.{getD};
-ghost use Rattle.rules.specs.Count.{maxWhere};
-ghost use Rattle.rules.specs.Model.{fileCount, fileAt, moveTimeAt};
-ghost use Rattle.rules.specs.Scheduling.{makes, weight as weightOf};
+ghost use Rattle.rules.specs.Scheduling.{weight as weightOf};
 ghost use Rattle.rules.specs.Promises.{WellFormed};
 ghost use Rattle.model.specs.Layout.{instanceOf};
-ghost use Rattle.ranking.specs.Weights.{WeightsFrom};
+ghost use Rattle.ranking.specs.Weights.{heaviestReader, WeightsFrom};
 use model::choice::greater;
 use model::choice::value_if;
 use model::layout;
@@ -23,7 +21,7 @@ fn heaviest_reader<'a>(
 ) -> u64
     requires { ⌜ WellFormed (instanceOf shape (now job)) ⌝ }
     requires { ⌜ WeightsFrom (instanceOf shape (now job)) (now weights) (i + 1) ⌝ }
-    ensures { λ r. ⌜ r ≡ maxWhere (fileCount (instanceOf shape (now (job .entry)))) (makes (instanceOf shape (now (job .entry))) i) (λ k. moveTimeAt (instanceOf shape (now (job .entry))) k + weightOf (instanceOf shape (now (job .entry))) (fileAt (instanceOf shape (now (job .entry))) k .reader)) ⌝ }
+    ensures { λ r. ⌜ r ≡ heaviestReader (instanceOf shape (now (job .entry))) i ⌝ }
 {
     let mut most: u64 = 0;
     let mut k: usize = 0;

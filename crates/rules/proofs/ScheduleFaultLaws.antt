@@ -1,6 +1,6 @@
--- When a timetable is refused for its text: scheduleFaults.
+-- When a timetable is refused for its text, and when it is read: scheduleFaults, timetableExact.
 use Prim.Native.Nat.{ℕ, zero, suc, _+_, _-_, _≤_, _<_}
-use mathlib.Core.Bool.{true, false, _&&_}
+use mathlib.Core.Bool.{true, false}
 use mathlib.Core.Path.{_≡_, refl, sym, ap, subst, _∙_}
 use mathlib.Core.Option.{Option, none, some}
 use mathlib.Core.List.{List, [], _∷_, _++_}
@@ -19,11 +19,12 @@ use Rattle.rules.specs.Promises.{First}
 use Rattle.rules.specs.ScheduleFaults.{DueLine, run, move, claim, end, SoFar, before, behind, StillMoves, Due, nextRun, nextMove, lastly}
 use Rattle.rules.specs.ScheduleFaults.{nothing, NotDue, otherTask, moveForRun, claimForRun, otherMaker, otherReader, runForMove, claimForMove}
 use Rattle.rules.specs.ScheduleFaults.{runForClaim, moveForClaim, behindClaim, Taken, aRun, aMove, theClaim, FirstBad, absent, unread, another}
-use Rattle.rules.specs.ScheduleFaults.{later, ScheduleFault, long, atLine, ScheduleFaults}
+use Rattle.rules.specs.ScheduleFaults.{later, ScheduleFault, long, atLine, ScheduleFaults, TimetableExact}
 use Rattle.rules.proofs.Tests.{split, clash, and-no}
 use Rattle.rules.proofs.FormLaws.{none-some}
 use Rattle.rules.proofs.ReadingLaws.{by-reading, length-snoc}
 use Rattle.rules.proofs.ScheduleLineLaws.{run-taken, move-taken, claim-taken}
+use Rattle.rules.proofs.TimetableLaws.{timetable-exact}
 
 module _ (I : Instance) where
   -- ---- one line is due at a time
@@ -379,3 +380,6 @@ module _ (I : Instance) where
 
 pub scheduleFaults : ScheduleFaults
 scheduleFaults I bs w k = (refused-fault I bs w k, fault-refused I bs w k)
+
+pub timetableExact : TimetableExact
+timetableExact = timetable-exact

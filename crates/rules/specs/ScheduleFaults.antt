@@ -6,11 +6,11 @@ use mathlib.Core.Logic.{_↔_}
 use mathlib.Core.List.{List, [], _∷_, _++_}
 use lib.ListN.{length}
 use Rattle.rules.specs.Limits.{maxText}
-use Rattle.rules.specs.Model.{Instance, taskCount, fileCount, fileAt, Run, moved}
+use Rattle.rules.specs.Model.{Instance, taskCount, fileCount, fileAt, Run, Schedule, moved}
 use Rattle.rules.specs.Validity.{Claim}
 use Rattle.rules.specs.Text.{Fault, tooLong, malformed, undue, Line, linesOf, wrong, right}
-use Rattle.rules.specs.ScheduleText.{ScheduleLine, runLine, moveLine, claimLine, scheduleLine, refused, readSchedule}
-use Rattle.rules.specs.Promises.{First}
+use Rattle.rules.specs.ScheduleText.{ScheduleLine, runLine, moveLine, claimLine, scheduleLine, refused, read, readSchedule, scheduleText}
+use Rattle.rules.specs.Promises.{WellFormed, Spellable, First}
 
 -- the line due: the run of task i, the move of file k, both counted from 0; the claim; nothing
 pub data DueLine : Type 0 where
@@ -19,7 +19,7 @@ pub data DueLine : Type 0 where
   claim : DueLine
   end : DueLine
 
--- what was read so far: the runs of the first tasks, then the moves that the first files make; at last the claim too
+-- what was read so far. Before the claim: the runs of the first tasks; then, of the first files, the moves of those that move. Behind it: all
 pub data SoFar : Type 0 where
   before : List Run → ℕ → SoFar
   behind : SoFar
@@ -68,6 +68,14 @@ pub data ScheduleFault (I : Instance) (timetable : List ℕ) : Fault → ℕ →
   long : maxText < length timetable → ScheduleFault I timetable tooLong 0
   atLine : (n : ℕ) (w : Fault) → length timetable ≤ maxText → FirstBad I (before [] 0) (linesOf timetable) n w → ScheduleFault I timetable w (suc n)
 
--- Not: one number, or one line, for every timetable that is not read; all or none read; the last fault; 12 for 13; 14 for a line that is not readable
+-- Not: no timetable refused, or each; one number, or one line, for all refused ones; the last fault; 12 for 13; 14 for a line that is not readable. Alone
+-- it is met by each other text read as one fixed timetable; TimetableExact rules that out
 abbrev pub ScheduleFaults : Type 0
 ScheduleFaults = (I : Instance) (timetable : List ℕ) (w : Fault) (k : ℕ) → (readSchedule I timetable ≡ refused w k) ↔ ScheduleFault I timetable w k
+
+-- the timetables read are the due lines of those that these can spell, and no others.
+-- Not: none read, or each; one fixed timetable read; a leading zero. Alone it is met by one number for all refusals; ScheduleFaults rules that out
+abbrev pub TimetableExact : Type 0
+TimetableExact =
+    (I : Instance) → WellFormed I → (timetable : List ℕ) (P : Schedule) (c : Claim) →
+    (readSchedule I timetable ≡ read P c) ↔ (Spellable I P c × (timetable ≡ scheduleText I P c))

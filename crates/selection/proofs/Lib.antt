@@ -5,4 +5,4 @@ pub mod ReadinessLaws
 -- the trials of one task
 pub mod ChoiceLaws
 -- the rounds
-pub mod RoundLoops
+pub mod RoundLaws

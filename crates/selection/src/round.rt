@@ -43,7 +43,8 @@ fn try_task<'a>(
     requires { ⌜ InBounds shape (now job) (now schedule) ⌝ }
     requires { ⌜ LastBounds shape (now last) ⌝ }
     requires { ⌜ task < shape .tasks ⌝ }
-    ensures { λ r. ⌜ asRound r ≡ firstThatFits (instanceOf shape (now (job .entry))) (partialOf shape (now (schedule .entry)) (now (last .entry))) (task ∷ []) ⌝ }
+    ensures { λ r. ⌜ asRound r
+        ≡ firstThatFits (instanceOf shape (now (job .entry))) (partialOf shape (now (schedule .entry)) (now (last .entry))) (task ∷ []) ⌝ }
     ensures { λ r. ⌜ ChoiceBounds shape (r .choice) × (r .trials ≤ 2) ⌝ }
 {
     if ready(shape, job, schedule, task) {
@@ -65,7 +66,9 @@ pub fn earliest_round<'a>(
 ) -> Round
     requires { ⌜ InBounds shape (now job) (now schedule) ⌝ }
     requires { ⌜ LastBounds shape (now last) ⌝ }
-    ensures { λ r. ⌜ asRound r ≡ earliestBelow (instanceOf shape (now (job .entry))) (partialOf shape (now (schedule .entry)) (now (last .entry))) (taskCount (instanceOf shape (now (job .entry)))) ⌝ }
+    ensures { λ r. ⌜ asRound r
+        ≡ earliestBelow (instanceOf shape (now (job .entry))) (partialOf shape (now (schedule .entry)) (now (last .entry)))
+        (taskCount (instanceOf shape (now (job .entry)))) ⌝ }
     ensures { λ r. ⌜ ChoiceBounds shape (r .choice) × (r .trials ≤ 2 * shape .tasks) ⌝ }
 {
     let mut choice = Choice::Nothing;
@@ -92,7 +95,9 @@ pub fn first_that_fits<'a>(
     requires { ⌜ InBounds shape (now job) (now schedule) ⌝ }
     requires { ⌜ LastBounds shape (now last) ⌝ }
     requires { ⌜ OrderBounds shape (now order) ⌝ }
-    ensures { λ r. ⌜ asRound r ≡ firstThatFits (instanceOf shape (now (job .entry))) (partialOf shape (now (schedule .entry)) (now (last .entry))) (listBelow (shape .tasks) (λ p. getD (now (order .entry)) p 0)) ⌝ }
+    ensures { λ r. ⌜ asRound r
+        ≡ firstThatFits (instanceOf shape (now (job .entry))) (partialOf shape (now (schedule .entry)) (now (last .entry)))
+        (listBelow (shape .tasks) (λ p. getD (now (order .entry)) p 0)) ⌝ }
     ensures { λ r. ⌜ ChoiceBounds shape (r .choice) × (r .trials ≤ 2 * shape .tasks) ⌝ }
 {
     let mut trials: u64 = 0;

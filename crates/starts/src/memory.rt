@@ -85,7 +85,8 @@ fn last_late<'a>(
 ) -> u64
     requires { ⌜ InBounds shape (now job) (now schedule) ⌝ }
     requires { ⌜ need ≤ mostNeeded ⌝ }
-    ensures { λ r. ⌜ r ≡ maxBelow (shape .files) (lateEnd (instanceOf shape (now (job .entry))) (scheduleOf shape (now (schedule .entry))) (colourBy colour) need) ⌝ }
+    ensures { λ r. ⌜ r
+        ≡ maxBelow (shape .files) (lateEnd (instanceOf shape (now (job .entry))) (scheduleOf shape (now (schedule .entry))) (colourBy colour) need) ⌝ }
     ensures { λ r. ⌜ r ≤ lastTick ⌝ }
 {
     let mut most: u64 = 0;

@@ -4,12 +4,10 @@ ghost use mathlib.Core.Option.{some};
 ghost use Prim.Native.Nat.{_+_, _≤_};
 ghost use Rattle.rules.specs.Limits.{moveTimes};
 ghost use Rattle.rules.specs.Scheduling.{processorStart, latest as rules-latest, delayed, earliestStart};
-ghost use Rattle.model.specs.Layout.{Job, Entries, instanceFrom, partialFrom, instanceOf, partialOf, colourBy, Processors, InBounds, LastBounds, lastTick, lastStart};
+ghost use Rattle.model.specs.Layout.{Job, Entries, instanceFrom, partialFrom, instanceOf, partialOf, colourBy};
+ghost use Rattle.model.specs.Layout.{Processors, InBounds, LastBounds, lastTick, lastStart};
 ghost use Rattle.starts.specs.FreeMemory.{asOption, tickOf};
-use super::inputs::crossing_size;
-use super::inputs::crossing_time;
-use super::inputs::input_start;
-use super::inputs::output_size;
+use super::demand::demand_of;
 use super::memory::Free;
 use super::memory::free_from;
 use model::choice::greater;
@@ -65,15 +63,20 @@ pub fn earliest_start<'a>(
 ) -> Free
     requires { ⌜ InBounds shape (now job) (now schedule) ⌝ }
     requires { ⌜ LastBounds shape (now last) ⌝ }
-    ensures { λ r. ⌜ asOption r ≡ earliestStart (instanceOf shape (now (job .entry))) (partialOf shape (now (schedule .entry)) (now (last .entry))) task (colourBy colour) ⌝ }
+    ensures { λ r. ⌜ asOption r
+        ≡ earliestStart (instanceOf shape (now (job .entry))) (partialOf shape (now (schedule .entry)) (now (last .entry))) task (colourBy colour) ⌝ }
     ensures { λ r. ⌜ tickOf r ≤ lastStart ⌝ }
 {
-    let incoming = crossing_size(shape, job, schedule, task, colour);
-    let made = output_size(shape, job, task);
+    let demand = demand_of(shape, job, schedule, task, colour);
     let free = processor_start(shape, last, colour);
-    let ready = greater(free, input_start(shape, job, schedule, task, colour));
-    let running = free_from(shape, job, schedule, colour, incoming + made);
-    let moving = free_from(shape, job, schedule, colour, incoming);
-    let delay = crossing_time(shape, job, schedule, task, colour);
-    latest(ready, running, moving, delay)
+    let ready = greater(free, demand.arrival);
+    let running = free_from(
+        shape,
+        job,
+        schedule,
+        colour,
+        demand.incoming + demand.outputs,
+    );
+    let moving = free_from(shape, job, schedule, colour, demand.incoming);
+    latest(ready, running, moving, demand.longest)
 }

@@ -16,7 +16,16 @@ use Rattle.text.proofs.WroteLaws.{wrote-none, wrote-length, byte-room, 
 -- ---- the next sign of a form
 module _ (form vs : List ℕ) (i k : ℕ) (h : i < length form) where
   fill-at-number : getD form i 0 ≡ 35 → fill (drop i form) (drop k vs) ≡ decimal (getD vs k 0) ++ fill (drop (i + 1) form) (drop (k + 1) vs)
-  fill-at-number s = rw (drop-cons form i 0 h, fill-number (getD form i 0) (drop (suc i) form) (drop k vs) (eq-eqb _ _ s), getD-drop k vs 0 0, drop-drop 1 k vs, add-zero, add-one i)
+  fill-at-number s =
+      rw (
+        drop-cons form i 0 h,
+        fill-number (getD form i 0) (drop (suc i) form) (drop k vs)
+            (eq-eqb _ _ s),
+        getD-drop k vs 0 0,
+        drop-drop 1 k vs,
+        add-zero,
+        add-one i,
+      )
 
   fill-at-sign : (getD form i 0 ≡ 35 → ⊥) → fill (drop i form) (drop k vs) ≡ getD form i 0 ∷ fill (drop (i + 1) form) (drop k vs)
   fill-at-sign s = rw (drop-cons form i 0 h, fill-sign (getD form i 0) (drop (suc i) form) (drop k vs) (ne-eqb _ _ s), add-one i)

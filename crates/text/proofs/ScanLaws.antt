@@ -92,7 +92,16 @@ module _ {form line found : List ℕ} {count i : ℕ} {rest : List ℕ} (r : Sca
             behind = omega (arith, r .behind);
             left =
                 r .left
-                ∙ rw (drop-cons form i 0 h, scan-number (getD form i 0) (drop (suc i) form) rest (eq-eqb _ _ s) (rw e at n), tail-part rest (length ds), add-one i, add-one count, ← e, ← q)
+                ∙ rw (
+                  drop-cons form i 0 h,
+                  scan-number (getD form i 0) (drop (suc i) form) rest (eq-eqb _ _ s) (rw e at n),
+                  tail-part rest
+                      (length ds),
+                  add-one i,
+                  add-one count,
+                  ← e,
+                  ← q,
+                )
                 (numbers-more found count v (scan (drop (suc i) form) (drop (length ds) rest)));
           }
 

@@ -45,10 +45,13 @@ step value old out k v d r e =
     record {
       room = omega (arith, r .room);
       long = length-set out k d ∙ r .long;
-      done = rw (drop-set out k d (omega (arith, r .room, r .long)), e) (sym (append-assoc (lastDigits k (v / 10)) ((48 + v % 10) ∷ []) (drop (suc k) out)) ∙ r .done);
+      done =
+          rw (drop-set out k d (omega (arith, r .room, r .long)), e)
+          (sym (append-assoc (lastDigits k (v / 10)) ((48 + v % 10) ∷ []) (drop (suc k) out)) ∙ r .done);
     }
 
-pub pending-more : (value : ℕ) (old out : List ℕ) (k v d : ℕ) → Pending value old out k v → 0 < k → d ≡ 48 + v % 10 → Pending value old (set out (k - 1) d) (k - 1) (v / 10)
+pub pending-more : (value : ℕ) (old out : List ℕ) (k v d : ℕ) → Pending value old out k v → 0 < k → d ≡ 48 + v % 10 → Pending value old (set out (k - 1) d)
+    (k - 1) (v / 10)
 pending-more value old out zero v d r h e = absurd (omega arith)
 pending-more value old out (suc k) v d r h e = let q : suc k - 1 ≡ k = omega arith in rw q (step value old out k v d r e)
 

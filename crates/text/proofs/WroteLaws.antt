@@ -68,7 +68,8 @@ module _ {a old out : List ℕ} {at : ℕ} (o : Wrote a at old out) where
     wrote-part r new p =
         record {
           count = rw length-append (omega (arith, o .count, p .count));
-          bytes = rw (take-out, p .bytes, tail-part out at, drop-out, none-left, append-nil, drop-drop (length w) at old, append-assoc, length-append, o .count);
+          bytes =
+              rw (take-out, p .bytes, tail-part out at, drop-out, none-left, append-nil, drop-drop (length w) at old, append-assoc, length-append, o .count);
         }
 
 -- ---- a text that is the text before it and one piece more

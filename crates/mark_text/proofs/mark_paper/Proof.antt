@@ -29,7 +29,8 @@ judge-requires c κs =
     let b = s .args .shape in
     let J = jobOf (s .args .job .now) in
     let L = entriesOf (c .before .before .before .before .read .last .1 .1 .1 .0) in
-    let r = paper-read (instanceFrom b J) (s .args .paper .now) (scheduleFrom b L) (c .before .before .before .before .read .result) (c .before .before .before .before .read .ensures) (c .before .before .claim .given .1) in
+    let r = paper-read (instanceFrom b J) (s .args .paper .now) (scheduleFrom b L) (c .before .before .before .before .read .result)
+    (c .before .before .before .before .read .ensures) (c .before .before .claim .given .1) in
     let p = read-spellable b J L _ (s .args .paper .now) r in
     (record { job = job-bounds b J (s .pre); schedule = spelled-bounds b J L _ p }, spelled-placed b J L _ p)
 
@@ -37,13 +38,16 @@ returns : tie.Need-returns
 returns c =
     let s = c .before .before .before .before .before .before .before .before in
     let I = instanceFrom (s .args .shape) (jobOf (s .args .job .now)) in
-    paper-refused I (s .args .paper .now) _ (c .before .before .before .before .before .read .result) (c .before .before .before .before .before .read .ensures) (c .before .before .before .fault .given .1) (c .before .timetable-number .ensures) (c .refused .ensures)
+    paper-refused I (s .args .paper .now) _ (c .before .before .before .before .before .read .result)
+    (c .before .before .before .before .before .read .ensures) (c .before .before .before .fault .given .1) (c .before .timetable-number .ensures)
+    (c .refused .ensures)
 
 returns-2 : tie.Need-returns-2
 returns-2 c =
     let s = c .before .before .before .before .before .before .before .before in
     let I = instanceFrom (s .args .shape) (jobOf (s .args .job .now)) in
-    paper-judged I (s .args .paper .now) _ (c .before .before .before .before .before .read .result) (c .before .before .before .before .before .read .ensures) (c .before .before .before .claim .given .1) (c .judge .ensures)
+    paper-judged I (s .args .paper .now) _ (c .before .before .before .before .before .read .result) (c .before .before .before .before .before .read .ensures)
+    (c .before .before .before .claim .given .1) (c .judge .ensures)
 
 pub mark-paper-spec : {M : Type 1} → statement M
 mark-paper-spec =

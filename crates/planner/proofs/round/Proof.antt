@@ -1,6 +1,6 @@
 -- `round` meets its contract: each arm is the round of its rule.
 use Rattle.model.specs.Layout.{jobOf, entriesOf, instanceFrom, partialFrom}
-use Rattle.planner.proofs.RoundCases.{heft-round, min-min-round}
+use Rattle.planner.proofs.RoundLaws.{heft-round, min-min-round}
 use borrow.Author.Needs.{needs}
 use Rattle.planner.proofs.round.Statement.{statement}
 use Rattle.planner.proofs.round.Tie as tie
@@ -19,13 +19,21 @@ earliest-round-requires c κs = search needs
 
 returns : tie.Need-returns
 returns c =
-    let s = c .before .before .before in
-    (heft-round (instanceFrom (s .args .shape) (jobOf (s .args .job .now))) (partialFrom (s .args .shape) (entriesOf (s .args .schedule .now)) (s .args .last .now)) (c .before .enum-told .given .1) (s .pre .1 .1 .1) (c .first-that-fits .ensures .0), c .first-that-fits .ensures .1)
+    let s = c .before .before .before in (
+      heft-round (instanceFrom (s .args .shape) (jobOf (s .args .job .now)))
+          (partialFrom (s .args .shape) (entriesOf (s .args .schedule .now)) (s .args .last .now)) (c .before .enum-told .given .1) (s .pre .1 .1 .1)
+          (c .first-that-fits .ensures .0),
+      c .first-that-fits .ensures .1,
+    )
 
 returns-2 : tie.Need-returns-2
 returns-2 c =
-    let s = c .before .before .before in
-    (min-min-round (instanceFrom (s .args .shape) (jobOf (s .args .job .now))) (partialFrom (s .args .shape) (entriesOf (s .args .schedule .now)) (s .args .last .now)) (c .before .enum-told2 .given .1) (c .earliest-round .ensures .0), c .earliest-round .ensures .1)
+    let s = c .before .before .before in (
+      min-min-round (instanceFrom (s .args .shape) (jobOf (s .args .job .now)))
+          (partialFrom (s .args .shape) (entriesOf (s .args .schedule .now)) (s .args .last .now)) (c .before .enum-told2 .given .1)
+          (c .earliest-round .ensures .0),
+      c .earliest-round .ensures .1,
+    )
 
 pub round-spec : {M : Type 1} → statement M
 round-spec =

@@ -1,5 +1,7 @@
 -- `show_mem_min_min` lends a buffer that holds the whole timetable on success.
 use native.Mathlib.Omega.{arith}
+use Rattle.rules.specs.Scheduling.{memMinMin}
+use Rattle.console.proofs.LongEnoughLaws.{long-enough}
 use borrow.Author.Needs.{needs}
 use Rattle.planner_examples.proofs.show_mem_min_min.Statement.{statement}
 use Rattle.planner_examples.proofs.show_mem_min_min.Tie as tie
@@ -23,7 +25,9 @@ slice-aggregate-print-answer : tie.Need-slice-aggregate-print-answer
 slice-aggregate-print-answer c = search needs
 
 print-answer-requires : tie.Need-print-answer-requires
-print-answer-requires c κs = λ e. let w = c .before .before .before .before .mem-min-min .ensures .1 .readBack e .written in omega (arith, w .place, w .rule .fits, c .before .before .before .before .mem-min-min .kept .1 .0)
+print-answer-requires c κs =
+    let m = c .before .before .before .before .mem-min-min in
+    long-enough memMinMin _ _ (m .last .1 .0) (m .result) (omega arith) (m .kept .1 .0) (m .ensures .1)
 
 returns : tie.Need-returns
 returns c = search needs

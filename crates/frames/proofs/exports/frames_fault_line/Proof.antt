@@ -18,7 +18,10 @@ same-length : tie.Need-same-length
 same-length c = search needs
 
 returns-2 : tie.Need-returns-2
-returns-2 c = copied (c .before .before .before .before .before .fault-line .ensures) (c .before .before .before .before .before .before .before .before .before .args .line .now) (c .before .before .before .before .if1 .left) _ _ _ (c .before .before .copy .ensures .0) refl (c .before .before .copy .ensures .1)
+returns-2 c =
+    copied (c .before .before .before .before .before .fault-line .ensures)
+    (c .before .before .before .before .before .before .before .before .before .args .line .now) (c .before .before .before .before .if1 .left) _ _ _
+    (c .before .before .copy .ensures .0) refl (c .before .before .copy .ensures .1)
 
 pub frames-fault-line-spec : {M : Type 1} → statement M
 frames-fault-line-spec =

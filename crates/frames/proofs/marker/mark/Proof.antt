@@ -25,18 +25,23 @@ mark-paper-requires : tie.Need-mark-paper-requires
 mark-paper-requires c κs =
     let s = c .before .before .before .before .before .before .before .before in
     let xs = c .before .before .before .before .read .last .1 .0 in
-    well-formed (s .args .sheet .now) _ xs (read-accepted (s .args .sheet .now) (c .before .before .before .before .read .result) xs (c .before .before .before .before .read .ensures) _ (c .before .before .shape .given .1))
+    well-formed (s .args .sheet .now) _ xs
+    (read-accepted (s .args .sheet .now) (c .before .before .before .before .read .result) xs (c .before .before .before .before .read .ensures) _
+    (c .before .before .shape .given .1))
 
 returns : tie.Need-returns
 returns c =
     let s = c .before .before .before .before .before .before .before .before .before in
-    let v = marked-refused (s .args .sheet .now) (s .args .paper .now) _ (c .before .before .before .before .before .read .result) (c .before .before .before .before .before .read .ensures) (c .before .before .before .fault .given .1) (c .before .sheet-number .ensures) (c .refused .ensures) in
+    let v = marked-refused (s .args .sheet .now) (s .args .paper .now) _ (c .before .before .before .before .before .read .result)
+    (c .before .before .before .before .before .read .ensures) (c .before .before .before .fault .given .1) (c .before .sheet-number .ensures)
+    (c .refused .ensures) in
     (v, marker-demands (s .args .sheet .now) (s .args .paper .now) v)
 
 returns-2 : tie.Need-returns-2
 returns-2 c =
     let s = c .before .before .before .before .before .before .before .before .before in
-    let v = marked-on (s .args .sheet .now) (s .args .paper .now) _ (c .before .before .before .before .before .read .result) (c .before .before .before .before .before .read .ensures) (c .before .before .before .shape .given .1) (c .mark-paper .ensures) in
+    let v = marked-on (s .args .sheet .now) (s .args .paper .now) _ (c .before .before .before .before .before .read .result)
+    (c .before .before .before .before .before .read .ensures) (c .before .before .before .shape .given .1) (c .mark-paper .ensures) in
     (v, marker-demands (s .args .sheet .now) (s .args .paper .now) v)
 
 pub mark-spec : {M : Type 1} → statement M

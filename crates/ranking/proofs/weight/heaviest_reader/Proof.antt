@@ -7,13 +7,15 @@ use Rattle.rules.specs.Scheduling.{makes}
 use Rattle.model.specs.Layout.{jobOf, instanceFrom}
 use Rattle.model.proofs.StepLaws.{max-none}
 use Rattle.model.proofs.LayoutLaws.{job-bounds}
-use Rattle.ranking.proofs.WeightSteps.{pathAt, reader-turn, reader-total}
+use Rattle.ranking.proofs.WeightLaws.{pathAt, reader-turn, reader-total}
 use borrow.Author.Needs.{needs}
 use Rattle.ranking.proofs.weight.heaviest_reader.Statement.{statement}
 use Rattle.ranking.proofs.weight.heaviest_reader.Tie as tie
 
 abbrev Inv-loop : tie.InvT-loop
-Inv-loop shape job weights i most₀ k₀ most k = (k ≤ shape .files) × (most ≡ maxWhere k (makes (instanceFrom shape (jobOf job)) i) (pathAt (instanceFrom shape (jobOf job))))
+Inv-loop shape job weights i most₀ k₀ most k =
+    (k ≤ shape .files)
+    × (most ≡ maxWhere k (makes (instanceFrom shape (jobOf job)) i) (pathAt (instanceFrom shape (jobOf job))))
 
 abbrev μ-loop : tie.MeasureT-loop
 μ-loop shape job weights i most₀ k₀ most k = shape .files - k
@@ -43,10 +45,17 @@ add-path : tie.Need-add-path Inv-loop μ-loop
 add-path c =
     let s = c .before .before .before .before .before .before in
     let f = job-bounds (s .args .shape) (jobOf (s .args .job .now)) (s .pre .0) in
-    omega (arith, f .moveTime (c .before .before .before .before .before .loop .k) (c .before .before .before .if1 .taken), c .before .move-time .ensures, s .pre .1 .bounded (c .before .before .reader .result))
+    omega (
+      arith,
+      f .moveTime (c .before .before .before .before .before .loop .k) (c .before .before .before .if1 .taken),
+      c .before .move-time .ensures,
+      s .pre .1 .bounded (c .before .before .reader .result),
+    )
 
 maker-requires : tie.Need-maker-requires Inv-loop μ-loop
-maker-requires c κs = let s = c .before .before .before .before .before .before in omega (arith, job-bounds (s .args .shape) (jobOf (s .args .job .now)) (s .pre .0) .files, c .before .before .before .if1 .taken)
+maker-requires c κs =
+    let s = c .before .before .before .before .before .before in
+    omega (arith, job-bounds (s .args .shape) (jobOf (s .args .job .now)) (s .pre .0) .files, c .before .before .before .if1 .taken)
 
 value-if-requires : tie.Need-value-if-requires Inv-loop μ-loop
 value-if-requires c κs = search needs
@@ -64,7 +73,12 @@ loop-again : tie.Need-loop-again Inv-loop μ-loop
 loop-again c =
     let s = c .before .before .before .before .before .before .before .before .before in
     let h = c .before .before .before .before .before .before .if1 .taken in
-    omega (arith, reader-turn (s .args .shape) (jobOf (s .args .job .now)) (s .pre .0) (s .args .i) (s .pre .1) h (c .before .before .maker .ensures) (c .before .before .before .before .before .reader .ensures) (c .before .before .before .before .move-time .ensures) (c .before .value-if .ensures .0))
+    omega (
+      arith,
+      reader-turn (s .args .shape) (jobOf (s .args .job .now)) (s .pre .0) (s .args .i) (s .pre .1) h (c .before .before .maker .ensures)
+          (c .before .before .before .before .before .reader .ensures) (c .before .before .before .before .move-time .ensures)
+          (c .before .value-if .ensures .0),
+    )
 
 returns : tie.Need-returns Inv-loop μ-loop
 returns c =

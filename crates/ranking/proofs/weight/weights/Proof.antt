@@ -1,5 +1,5 @@
 -- `weights` meets its contract. The invariant: the weights of the tasks from i on are in the array.
-use Rattle.ranking.proofs.WeightSteps.{weights-none, weights-next, weights-all, weight-fits, weights-turn}
+use Rattle.ranking.proofs.WeightLaws.{weights-none, weights-next, weights-all, weight-fits, weights-turn}
 use Prim.Native.Nat.{_≤_, _-_}
 use mathlib.Core.Path.{_≡_}
 use native.Mathlib.Omega.{arith}
@@ -39,20 +39,28 @@ add-time c =
 
 heaviest-reader-requires : tie.Need-heaviest-reader-requires Inv-loop μ-loop
 heaviest-reader-requires c κs =
-    let s = c .before .before .before .before .before in
-    (s .pre, weights-next (s .args .shape) (jobOf (s .args .job .now)) (s .pre) (c .before .before .before .loop-test .taken) (c .before .before .before .before .loop .inv .2))
+    let s = c .before .before .before .before .before in (
+      s .pre,
+      weights-next (s .args .shape) (jobOf (s .args .job .now)) (s .pre) (c .before .before .before .loop-test .taken)
+          (c .before .before .before .before .loop .inv .2),
+    )
 
 add-all : tie.Need-add-all Inv-loop μ-loop
 add-all c =
     let s = c .before .before .before .before .before .before in
     let i = c .before .before .before .before .before .loop .i - 1 in
-    omega (arith, weight-fits (s .args .shape) (jobOf (s .args .job .now)) (s .pre) i (omega arith) (c .before .before .before .run-time .ensures .0) (c .before .before .run-time2 .ensures .0) (c .heaviest-reader .ensures))
+    omega (
+      arith,
+      weight-fits (s .args .shape) (jobOf (s .args .job .now)) (s .pre) i (omega arith) (c .before .before .before .run-time .ensures .0)
+          (c .before .before .run-time2 .ensures .0) (c .heaviest-reader .ensures),
+    )
 
 mul-all : tie.Need-mul-all Inv-loop μ-loop
 mul-all c = let s = c .before .before .before .before .before .before in omega (arith, job-bounds (s .args .shape) (jobOf (s .args .job .now)) (s .pre) .tasks)
 
 array-write-all : tie.Need-array-write-all Inv-loop μ-loop
-array-write-all c = let s = c .before .before .before .before .before .before in omega (arith, job-bounds (s .args .shape) (jobOf (s .args .job .now)) (s .pre) .tasks)
+array-write-all c =
+    let s = c .before .before .before .before .before .before in omega (arith, job-bounds (s .args .shape) (jobOf (s .args .job .now)) (s .pre) .tasks)
 
 loop-less : tie.Need-loop-less Inv-loop μ-loop
 loop-less c = search needs
@@ -64,7 +72,8 @@ loop-again c =
     let J = jobOf (s .args .job .now) in (
       omega arith,
       simp length-set (at .inv .1),
-      weights-turn (s .args .shape) J (s .pre) (at .i - 1) (omega arith) (c .before .before .before .run-time .ensures .0) (c .before .before .run-time2 .ensures .0) (c .heaviest-reader .ensures) (at .inv .1)
+      weights-turn (s .args .shape) J (s .pre) (at .i - 1) (omega arith) (c .before .before .before .run-time .ensures .0)
+          (c .before .before .run-time2 .ensures .0) (c .heaviest-reader .ensures) (at .inv .1)
           (weights-next (s .args .shape) J (s .pre) (c .before .before .before .before .loop-test .taken) (at .inv .2)),
     )
 

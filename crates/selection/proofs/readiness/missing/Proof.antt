@@ -15,7 +15,10 @@ placed-requires : tie.Need-placed-requires
 placed-requires c κs = let s = c .before .before .before in omega (arith, s .pre .0 .job .maker (s .args .k) (s .pre .1), s .pre .0 .job .tasks)
 
 returns : tie.Need-returns
-returns c = let s = c .before .before .before .before in missing-yes (s .pre .0) (s .args .task) (s .pre .1) (c .before .before .before .reader .ensures) (c .before .before .if1 .taken) (c .before .maker .ensures) (c .placed .ensures)
+returns c =
+    let s = c .before .before .before .before in
+    missing-yes (s .pre .0) (s .args .task) (s .pre .1) (c .before .before .before .reader .ensures) (c .before .before .if1 .taken)
+    (c .before .maker .ensures) (c .placed .ensures)
 
 returns-2 : tie.Need-returns-2
 returns-2 c = let s = c .before .before in missing-no (s .pre .0) (s .args .task) (s .pre .1) (c .before .reader .ensures) (c .if1 .left)

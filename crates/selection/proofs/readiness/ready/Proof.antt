@@ -32,7 +32,10 @@ missing-requires : tie.Need-missing-requires Inv-loop μ-loop
 missing-requires c κs = search needs
 
 returns-2 : tie.Need-returns-2 Inv-loop μ-loop
-returns-2 c = let s = c .before .before .before .before .before .before .before in ready-missing (s .pre .0) (s .args .task) (s .pre .1) (c .before .before .before .before .before .before .placed .ensures) (c .before .before .if2 .taken) (c .before .missing .ensures) (c .if3 .taken)
+returns-2 c =
+    let s = c .before .before .before .before .before .before .before in
+    ready-missing (s .pre .0) (s .args .task) (s .pre .1) (c .before .before .before .before .before .before .placed .ensures)
+    (c .before .before .if2 .taken) (c .before .missing .ensures) (c .if3 .taken)
 
 add-i : tie.Need-add-i Inv-loop μ-loop
 add-i c = search needs
@@ -42,11 +45,17 @@ loop-less c = search needs
 
 loop-again : tie.Need-loop-again Inv-loop μ-loop
 loop-again c =
-    let a = c .before .before .before .before .before .before .before .args in
-    (omega arith, any-next (missing (instanceFrom (a .shape) (jobOf (a .job .now))) (scheduleFrom (a .shape) (entriesOf (a .schedule .now))) (a .task)) (c .before .before .before .before .loop .i) (c .before .before .before .before .loop .inv .1) (c .before .missing .ensures) (c .if3 .left))
+    let a = c .before .before .before .before .before .before .before .args in (
+      omega arith,
+      any-next (missing (instanceFrom (a .shape) (jobOf (a .job .now))) (scheduleFrom (a .shape) (entriesOf (a .schedule .now))) (a .task))
+          (c .before .before .before .before .loop .i) (c .before .before .before .before .loop .inv .1) (c .before .missing .ensures) (c .if3 .left),
+    )
 
 returns-3 : tie.Need-returns-3 Inv-loop μ-loop
-returns-3 c = let s = c .before .before .before .before .before in ready-found (s .pre .0) (s .args .task) (s .pre .1) (c .before .before .before .before .placed .ensures) (c .before .before .before .if1 .left) {n = c .before .before .loop .i} (omega arith) (c .before .before .loop .inv .1)
+returns-3 c =
+    let s = c .before .before .before .before .before in
+    ready-found (s .pre .0) (s .args .task) (s .pre .1) (c .before .before .before .before .placed .ensures) (c .before .before .before .if1 .left)
+    {n = c .before .before .loop .i} (omega arith) (c .before .before .loop .inv .1)
 
 pub ready-spec : {M : Type 1} → statement M
 ready-spec =

@@ -5,7 +5,7 @@ use native.Mathlib.Omega.{arith}
 use Rattle.rules.specs.Scheduling.{earliestBelow}
 use Rattle.model.specs.Layout.{jobOf, entriesOf, instanceFrom, partialFrom}
 use Rattle.selection.specs.Choices.{asChoice, ChoiceBounds}
-use Rattle.selection.proofs.RoundLoops.{below-choice, below-trials, choice-turn, trials-turn, below-total}
+use Rattle.selection.proofs.RoundLaws.{below-choice, below-trials, choice-turn, trials-turn, below-total}
 use borrow.Author.Needs.{needs}
 use Rattle.selection.proofs.round.earliest_round.Statement.{statement}
 use Rattle.selection.proofs.round.earliest_round.Tie as tie
@@ -13,14 +13,22 @@ use Rattle.selection.proofs.round.earliest_round.Tie as tie
 abbrev Inv-loop : tie.InvT-loop
 Inv-loop shape job schedule last choice₀ trials₀ i₀ choice trials i =
     (i ≤ shape .tasks) × (trials ≤ 2 * i)
-    × (asChoice choice ≡ earliestBelow (instanceFrom shape (jobOf job)) (partialFrom shape (entriesOf schedule) last) i .choice) × (trials ≡ earliestBelow (instanceFrom shape (jobOf job)) (partialFrom shape (entriesOf schedule) last) i .trials)
+    × (asChoice choice ≡ earliestBelow (instanceFrom shape (jobOf job)) (partialFrom shape (entriesOf schedule) last) i .choice)
+    × (trials ≡ earliestBelow (instanceFrom shape (jobOf job)) (partialFrom shape (entriesOf schedule) last) i .trials)
     × ChoiceBounds shape choice
 
 abbrev μ-loop : tie.MeasureT-loop
 μ-loop shape job schedule last choice₀ trials₀ i₀ choice trials i = shape .tasks - i
 
 loop-holds : tie.Need-loop-holds Inv-loop μ-loop
-loop-holds c = let a = c .args in (omega arith, omega arith, sym (below-choice (a .shape) (jobOf (a .job .now)) (entriesOf (a .schedule .now)) (a .last .now)), sym (below-trials (a .shape) (jobOf (a .job .now)) (entriesOf (a .schedule .now)) (a .last .now)), tt)
+loop-holds c =
+    let a = c .args in (
+      omega arith,
+      omega arith,
+      sym (below-choice (a .shape) (jobOf (a .job .now)) (entriesOf (a .schedule .now)) (a .last .now)),
+      sym (below-trials (a .shape) (jobOf (a .job .now)) (entriesOf (a .schedule .now)) (a .last .now)),
+      tt,
+    )
 
 try-task-requires : tie.Need-try-task-requires Inv-loop μ-loop
 try-task-requires c κs = search needs
@@ -42,13 +50,24 @@ loop-again c =
     let a = c .before .before .before .before .before .before .args in (
       omega arith,
       omega arith,
-      choice-turn (a .shape) (jobOf (a .job .now)) (entriesOf (a .schedule .now)) (a .last .now) (c .before .before .before .before .before .loop .i) (c .before .before .try-task .result) (c .before .before .try-task .ensures .0) (c .before .before .before .before .before .loop .choice) (c .before .earlier .result) (c .before .before .before .before .before .loop .inv .2) (c .before .earlier .ensures .0),
-      omega (arith, trials-turn (a .shape) (jobOf (a .job .now)) (entriesOf (a .schedule .now)) (a .last .now) (c .before .before .before .before .before .loop .i) (c .before .before .try-task .result) (c .before .before .try-task .ensures .0)),
+      choice-turn (a .shape) (jobOf (a .job .now)) (entriesOf (a .schedule .now)) (a .last .now) (c .before .before .before .before .before .loop .i)
+          (c .before .before .try-task .result) (c .before .before .try-task .ensures .0) (c .before .before .before .before .before .loop .choice)
+          (c .before .earlier .result) (c .before .before .before .before .before .loop .inv .2) (c .before .earlier .ensures .0),
+      omega (
+        arith,
+        trials-turn (a .shape) (jobOf (a .job .now)) (entriesOf (a .schedule .now)) (a .last .now) (c .before .before .before .before .before .loop .i)
+            (c .before .before .try-task .result) (c .before .before .try-task .ensures .0),
+      ),
       c .before .earlier .ensures .1,
     )
 
 returns : tie.Need-returns Inv-loop μ-loop
-returns c = let a = c .before .before .before .args in (below-total (a .shape) (jobOf (a .job .now)) (entriesOf (a .schedule .now)) (a .last .now) {n = c .before .before .loop .i} (omega arith) (c .before .before .loop .choice) (c .before .before .loop .inv .2) (c .before .before .loop .inv .3), (c .before .before .loop .inv .4, omega arith))
+returns c =
+    let a = c .before .before .before .args in (
+      below-total (a .shape) (jobOf (a .job .now)) (entriesOf (a .schedule .now)) (a .last .now) {n = c .before .before .loop .i} (omega arith)
+          (c .before .before .loop .choice) (c .before .before .loop .inv .2) (c .before .before .loop .inv .3),
+      (c .before .before .loop .inv .4, omega arith),
+    )
 
 pub earliest-round-spec : {M : Type 1} → statement M
 earliest-round-spec =

@@ -2,7 +2,7 @@
 use Prim.Native.Nat.{_≤_, _*_, _-_}
 use native.Mathlib.Omega.{arith}
 use Rattle.model.specs.Layout.{jobOf, entriesOf}
-use Rattle.selection.proofs.RoundLoops.{Left, left-all, left-next, left-taken, left-none}
+use Rattle.selection.proofs.RoundLaws.{Left, left-all, left-next, left-taken, left-none}
 use borrow.Author.Needs.{needs}
 use Rattle.selection.proofs.round.first_that_fits.Statement.{statement}
 use Rattle.selection.proofs.round.first_that_fits.Tie as tie
@@ -15,7 +15,8 @@ abbrev μ-loop : tie.MeasureT-loop
 μ-loop shape job schedule last order trials₀ i₀ trials i = shape .tasks - i
 
 loop-holds : tie.Need-loop-holds Inv-loop μ-loop
-loop-holds c = let a = c .args in (omega arith, omega arith, left-all (a .shape) (jobOf (a .job .now)) (entriesOf (a .schedule .now)) (a .last .now) (a .order .now))
+loop-holds c =
+    let a = c .args in (omega arith, omega arith, left-all (a .shape) (jobOf (a .job .now)) (entriesOf (a .schedule .now)) (a .last .now) (a .order .now))
 
 mul-try-task : tie.Need-mul-try-task Inv-loop μ-loop
 mul-try-task c = search needs
@@ -24,7 +25,8 @@ element-copy-out-try-task : tie.Need-element-copy-out-try-task Inv-loop μ-loop
 element-copy-out-try-task c = search needs
 
 try-task-requires : tie.Need-try-task-requires Inv-loop μ-loop
-try-task-requires c κs = let s = c .before .before .before .before in (s .pre .0, (s .pre .1 .0, s .pre .1 .1 (c .before .before .before .loop .i) (c .before .if1 .taken)))
+try-task-requires c κs =
+    let s = c .before .before .before .before in (s .pre .0, (s .pre .1 .0, s .pre .1 .1 (c .before .before .before .loop .i) (c .before .if1 .taken)))
 
 add-trials : tie.Need-add-trials Inv-loop μ-loop
 add-trials c = search needs
@@ -33,7 +35,14 @@ is-chosen-requires : tie.Need-is-chosen-requires Inv-loop μ-loop
 is-chosen-requires c κs = search needs
 
 returns : tie.Need-returns Inv-loop μ-loop
-returns c = let a = c .before .before .before .before .before .before .before .before .args in (left-taken (a .shape) (jobOf (a .job .now)) (entriesOf (a .schedule .now)) (a .last .now) (a .order .now) (c .before .before .before .before .before .before .before .loop .trials) (c .before .before .before .before .before .if1 .taken) (c .before .before .before .before .before .before .before .loop .inv .2) (c .before .before .before .try-task .result) (c .before .before .before .try-task .ensures .0) (c .before .is-chosen .ensures) (c .if2 .taken), (c .before .before .before .try-task .ensures .1 .0, omega arith))
+returns c =
+    let a = c .before .before .before .before .before .before .before .before .args in (
+      left-taken (a .shape) (jobOf (a .job .now)) (entriesOf (a .schedule .now)) (a .last .now) (a .order .now)
+          (c .before .before .before .before .before .before .before .loop .trials) (c .before .before .before .before .before .if1 .taken)
+          (c .before .before .before .before .before .before .before .loop .inv .2) (c .before .before .before .try-task .result)
+          (c .before .before .before .try-task .ensures .0) (c .before .is-chosen .ensures) (c .if2 .taken),
+      (c .before .before .before .try-task .ensures .1 .0, omega arith),
+    )
 
 add-i : tie.Need-add-i Inv-loop μ-loop
 add-i c = search needs
@@ -42,10 +51,23 @@ loop-less : tie.Need-loop-less Inv-loop μ-loop
 loop-less c = search needs
 
 loop-again : tie.Need-loop-again Inv-loop μ-loop
-loop-again c = let a = c .before .before .before .before .before .before .before .before .args in (omega arith, omega arith, left-next (a .shape) (jobOf (a .job .now)) (entriesOf (a .schedule .now)) (a .last .now) (a .order .now) (c .before .before .before .before .before .before .before .loop .trials) (c .before .before .before .before .before .if1 .taken) (c .before .before .before .before .before .before .before .loop .inv .2) (c .before .before .before .try-task .result) (c .before .before .before .try-task .ensures .0) (c .before .is-chosen .ensures) (c .if2 .left))
+loop-again c =
+    let a = c .before .before .before .before .before .before .before .before .args in (
+      omega arith,
+      omega arith,
+      left-next (a .shape) (jobOf (a .job .now)) (entriesOf (a .schedule .now)) (a .last .now) (a .order .now)
+          (c .before .before .before .before .before .before .before .loop .trials) (c .before .before .before .before .before .if1 .taken)
+          (c .before .before .before .before .before .before .before .loop .inv .2) (c .before .before .before .try-task .result)
+          (c .before .before .before .try-task .ensures .0) (c .before .is-chosen .ensures) (c .if2 .left),
+    )
 
 returns-2 : tie.Need-returns-2 Inv-loop μ-loop
-returns-2 c = let a = c .before .before .before .args in (left-none (a .shape) (jobOf (a .job .now)) (entriesOf (a .schedule .now)) (a .last .now) (a .order .now) {i = c .before .before .loop .i} (c .before .before .loop .inv .2) (omega arith), (tt, omega arith))
+returns-2 c =
+    let a = c .before .before .before .args in (
+      left-none (a .shape) (jobOf (a .job .now)) (entriesOf (a .schedule .now)) (a .last .now) (a .order .now) {i = c .before .before .loop .i}
+          (c .before .before .loop .inv .2) (omega arith),
+      (tt, omega arith),
+    )
 
 pub first-that-fits-spec : {M : Type 1} → statement M
 first-that-fits-spec =

@@ -1,7 +1,7 @@
 -- `try_task` meets its contract.
 use native.Mathlib.Omega.{arith}
 use Rattle.model.specs.Layout.{jobOf, entriesOf}
-use Rattle.selection.proofs.RoundLoops.{one-tried, one-left}
+use Rattle.selection.proofs.RoundLaws.{one-tried, one-left}
 use borrow.Author.Needs.{needs}
 use Rattle.selection.proofs.round.try_task.Statement.{statement}
 use Rattle.selection.proofs.round.try_task.Tie as tie
@@ -13,10 +13,19 @@ both-colours-requires : tie.Need-both-colours-requires
 both-colours-requires c κs = search needs
 
 returns : tie.Need-returns
-returns c = let a = c .before .before .before .args in (one-tried (a .shape) (jobOf (a .job .now)) (entriesOf (a .schedule .now)) (a .last .now) (a .task) (c .before .before .ready .ensures) (c .before .if1 .taken) (c .both-colours .result) (c .both-colours .ensures .0), (c .both-colours .ensures .1, omega arith))
+returns c =
+    let a = c .before .before .before .args in (
+      one-tried (a .shape) (jobOf (a .job .now)) (entriesOf (a .schedule .now)) (a .last .now) (a .task) (c .before .before .ready .ensures)
+          (c .before .if1 .taken) (c .both-colours .result) (c .both-colours .ensures .0),
+      (c .both-colours .ensures .1, omega arith),
+    )
 
 returns-2 : tie.Need-returns-2
-returns-2 c = let a = c .before .before .args in (one-left (a .shape) (jobOf (a .job .now)) (entriesOf (a .schedule .now)) (a .last .now) (a .task) (c .before .ready .ensures) (c .if1 .left), (tt, omega arith))
+returns-2 c =
+    let a = c .before .before .args in (
+      one-left (a .shape) (jobOf (a .job .now)) (entriesOf (a .schedule .now)) (a .last .now) (a .task) (c .before .ready .ensures) (c .if1 .left),
+      (tt, omega arith),
+    )
 
 pub try-task-spec : {M : Type 1} → statement M
 try-task-spec = tie.close (tie.spec ready-requires both-colours-requires returns returns-2)

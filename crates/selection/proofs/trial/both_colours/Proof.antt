@@ -18,13 +18,18 @@ tried-requires-2 : tie.Need-tried-requires-2
 tried-requires-2 c κs = search needs
 
 earlier-requires : tie.Need-earlier-requires
-earlier-requires c κs = let s = c .before .before .before .before in (s .pre .0 .job, (c .before .tried .ensures .1 (s .args .shape) (s .pre .1 .1), c .tried2 .ensures .1 (s .args .shape) (s .pre .1 .1)))
+earlier-requires c κs =
+    let s = c .before .before .before .before in
+    (s .pre .0 .job, (c .before .tried .ensures .1 (s .args .shape) (s .pre .1 .1), c .tried2 .ensures .1 (s .args .shape) (s .pre .1 .1)))
 
 returns : tie.Need-returns
 returns c =
     let a = c .before .before .before .before .before .args in (
-      both-at (instanceFrom (a .shape) (jobOf (a .job .now))) (partialFrom (a .shape) (entriesOf (a .schedule .now)) (a .last .now)) (a .task) (c .before .before .before .before .earliest-start .result) (c .before .before .before .earliest-start2 .result) (c .before .before .tried .result) (c .before .tried2 .result) (c .earlier .result)
-          (c .before .before .before .before .earliest-start .ensures .0) (c .before .before .before .earliest-start2 .ensures .0) (c .before .before .tried .ensures .0) (c .before .tried2 .ensures .0) (c .earlier .ensures .0),
+      both-at (instanceFrom (a .shape) (jobOf (a .job .now))) (partialFrom (a .shape) (entriesOf (a .schedule .now)) (a .last .now)) (a .task)
+          (c .before .before .before .before .earliest-start .result) (c .before .before .before .earliest-start2 .result)
+          (c .before .before .tried .result) (c .before .tried2 .result) (c .earlier .result)
+          (c .before .before .before .before .earliest-start .ensures .0) (c .before .before .before .earliest-start2 .ensures .0)
+          (c .before .before .tried .ensures .0) (c .before .tried2 .ensures .0) (c .earlier .ensures .0),
       c .earlier .ensures .1,
     )
 

@@ -9,7 +9,9 @@ run-time-requires : tie.Need-run-time-requires
 run-time-requires c κs = omega (arith, c .pre .0 .tasks)
 
 add-result : tie.Need-add-result
-add-result c = let s = c .before in omega (arith, s .pre .0 .onBlue (s .args .task) (s .pre .1 .0), s .pre .0 .onRed (s .args .task) (s .pre .1 .0), c .run-time .ensures .1)
+add-result c =
+    let s = c .before in
+    omega (arith, s .pre .0 .onBlue (s .args .task) (s .pre .1 .0), s .pre .0 .onRed (s .args .task) (s .pre .1 .0), c .run-time .ensures .1)
 
 returns : tie.Need-returns
 returns c =

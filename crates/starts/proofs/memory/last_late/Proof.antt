@@ -6,7 +6,7 @@ use Rattle.rules.specs.Count.{maxBelow}
 use Rattle.model.specs.Layout.{jobOf, entriesOf, instanceFrom, scheduleFrom, colourBy, lastTick}
 use Rattle.model.proofs.StepLaws.{max-none, max-next}
 use Rattle.starts.specs.FreeMemory.{lateEnd}
-use Rattle.starts.proofs.FreeLaws.{late-total}
+use Rattle.starts.proofs.FreeMemoryLaws.{late-total}
 use borrow.Author.Needs.{needs}
 use Rattle.starts.proofs.memory.last_late.Statement.{statement}
 use Rattle.starts.proofs.memory.last_late.Tie as tie
@@ -37,10 +37,21 @@ loop-less c = search needs
 loop-again : tie.Need-loop-again Inv-loop μ-loop
 loop-again c =
     let a = c .before .before .before .before .before .args in
-    omega (arith, max-next (lateEnd (instanceFrom (a .shape) (jobOf (a .job .now))) (scheduleFrom (a .shape) (entriesOf (a .schedule .now))) (colourBy (a .colour)) (a .need)) (c .before .before .before .before .loop .i))
+    omega (
+      arith,
+      max-next
+          (lateEnd (instanceFrom (a .shape) (jobOf (a .job .now))) (scheduleFrom (a .shape) (entriesOf (a .schedule .now))) (colourBy (a .colour)) (a .need))
+          (c .before .before .before .before .loop .i),
+    )
 
 returns : tie.Need-returns Inv-loop μ-loop
-returns c = let a = c .before .before .before .args in omega (arith, late-total (a .shape) (jobOf (a .job .now)) (entriesOf (a .schedule .now)) (a .need) (colourBy (a .colour)) {n = c .before .before .loop .i} (omega arith))
+returns c =
+    let a = c .before .before .before .args in
+    omega (
+      arith,
+      late-total (a .shape) (jobOf (a .job .now)) (entriesOf (a .schedule .now)) (a .need) (colourBy (a .colour)) {n = c .before .before .loop .i}
+          (omega arith),
+    )
 
 pub last-late-spec : {M : Type 1} → statement M
 last-late-spec =

@@ -2,7 +2,7 @@
 use native.Mathlib.Omega.{arith}
 use Rattle.model.specs.Layout.{jobOf, entriesOf, colourBy}
 use Rattle.model.specs.Holds.{asHold}
-use Rattle.starts.proofs.FreeLaws.{end-settles, late-none, late-fits, late-found}
+use Rattle.starts.proofs.FreeMemoryLaws.{end-settles, late-none, late-fits, late-found}
 use borrow.Author.Needs.{needs}
 use Rattle.starts.proofs.memory.late_end.Statement.{statement}
 use Rattle.starts.proofs.memory.late_end.Tie as tie
@@ -14,7 +14,12 @@ end-of-requires : tie.Need-end-of-requires
 end-of-requires c κs = search needs
 
 returns : tie.Need-returns
-returns c = let a = c .before .before .before .args in (late-none (a .shape) (jobOf (a .job .now)) (entriesOf (a .schedule .now)) (a .need) (colourBy (a .colour)) (a .k) (c .before .before .hold-of .result) (c .before .before .hold-of .ensures .0) (c .before .end-of .ensures) (c .if1 .taken), omega arith)
+returns c =
+    let a = c .before .before .before .args in (
+      late-none (a .shape) (jobOf (a .job .now)) (entriesOf (a .schedule .now)) (a .need) (colourBy (a .colour)) (a .k) (c .before .before .hold-of .result)
+          (c .before .before .hold-of .ensures .0) (c .before .end-of .ensures) (c .if1 .taken),
+      omega arith,
+    )
 
 sub-fits-at : tie.Need-sub-fits-at
 sub-fits-at c = omega arith
@@ -23,10 +28,22 @@ fits-at-requires : tie.Need-fits-at-requires
 fits-at-requires c κs = search needs
 
 returns-2 : tie.Need-returns-2
-returns-2 c = let a = c .before .before .before .before .before .args in (late-fits (a .shape) (jobOf (a .job .now)) (entriesOf (a .schedule .now)) (a .need) (colourBy (a .colour)) (a .k) (c .before .before .before .before .hold-of .result) (c .before .before .before .before .hold-of .ensures .0) (c .before .before .before .end-of .ensures) (c .before .fits-at .ensures) (c .if2 .taken), omega arith)
+returns-2 c =
+    let a = c .before .before .before .before .before .args in (
+      late-fits (a .shape) (jobOf (a .job .now)) (entriesOf (a .schedule .now)) (a .need) (colourBy (a .colour)) (a .k)
+          (c .before .before .before .before .hold-of .result) (c .before .before .before .before .hold-of .ensures .0)
+          (c .before .before .before .end-of .ensures) (c .before .fits-at .ensures) (c .if2 .taken),
+      omega arith,
+    )
 
 returns-3 : tie.Need-returns-3
-returns-3 c = let a = c .before .before .before .before .before .args in (late-found (a .shape) (jobOf (a .job .now)) (entriesOf (a .schedule .now)) (a .need) (colourBy (a .colour)) (a .k) (c .before .before .before .before .hold-of .result) (c .before .before .before .before .hold-of .ensures .0) (c .before .before .before .end-of .ensures) (c .before .fits-at .ensures) (c .if2 .left), omega (arith, end-settles (asHold (c .before .before .before .before .hold-of .result))))
+returns-3 c =
+    let a = c .before .before .before .before .before .args in (
+      late-found (a .shape) (jobOf (a .job .now)) (entriesOf (a .schedule .now)) (a .need) (colourBy (a .colour)) (a .k)
+          (c .before .before .before .before .hold-of .result) (c .before .before .before .before .hold-of .ensures .0)
+          (c .before .before .before .end-of .ensures) (c .before .fits-at .ensures) (c .if2 .left),
+      omega (arith, end-settles (asHold (c .before .before .before .before .hold-of .result))),
+    )
 
 pub late-end-spec : {M : Type 1} → statement M
 late-end-spec =

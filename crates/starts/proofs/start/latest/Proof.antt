@@ -1,6 +1,6 @@
 -- `latest` meets its contract.
 use native.Mathlib.Omega.{arith}
-use Rattle.starts.proofs.StartCases.{tick-of, latest-first, latest-second, latest-both}
+use Rattle.starts.proofs.EarliestStartLaws.{tick-of, latest-first, latest-second, latest-both}
 use borrow.Author.Needs.{needs}
 use Rattle.starts.proofs.start.latest.Statement.{statement}
 use Rattle.starts.proofs.start.latest.Tie as tie
@@ -21,7 +21,9 @@ enum-told-2 : tie.Need-enum-told-2
 enum-told-2 c = search needs
 
 returns-2 : tie.Need-returns-2
-returns-2 c = let a = c .before .before .before .before .before .args in (latest-second (a .ready) (a .running) (a .moving) (a .delay) (c .before .before .before .running .given .1) (c .enum-told2 .given .1), omega arith)
+returns-2 c =
+    let a = c .before .before .before .before .before .args in
+    (latest-second (a .ready) (a .running) (a .moving) (a .delay) (c .before .before .before .running .given .1) (c .enum-told2 .given .1), omega arith)
 
 add-greater : tie.Need-add-greater
 add-greater c = omega (arith, tick-of (c .before .moving .given .1))
@@ -33,7 +35,12 @@ greater-requires-2 : tie.Need-greater-requires-2
 greater-requires-2 c κs = search needs
 
 returns-3 : tie.Need-returns-3
-returns-3 c = let a = c .before .before .before .before .before .before .before .before .args in (latest-both (a .ready) (a .running) (a .moving) (a .delay) (c .before .before .before .before .before .before .running .given .1) (c .before .before .before .moving .given .1) (omega arith), omega (arith, tick-of (c .before .before .before .before .before .before .running .given .1), tick-of (c .before .before .before .moving .given .1)))
+returns-3 c =
+    let a = c .before .before .before .before .before .before .before .before .args in (
+      latest-both (a .ready) (a .running) (a .moving) (a .delay) (c .before .before .before .before .before .before .running .given .1)
+          (c .before .before .before .moving .given .1) (omega arith),
+      omega (arith, tick-of (c .before .before .before .before .before .before .running .given .1), tick-of (c .before .before .before .moving .given .1)),
+    )
 
 pub latest-spec : {M : Type 1} → statement M
 latest-spec =

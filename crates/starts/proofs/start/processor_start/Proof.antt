@@ -5,7 +5,7 @@ use native.Mathlib.Omega.{arith}
 use lib.ListN.{getD}
 use Rattle.rules.specs.Count.{minUpTo}
 use Rattle.model.specs.Layout.{lastTick}
-use Rattle.starts.proofs.StartCases.{least-first, least-turn, least-total}
+use Rattle.starts.proofs.EarliestStartLaws.{least-first, least-turn, least-total}
 use borrow.Author.Needs.{needs}
 use Rattle.starts.proofs.start.processor_start.Statement.{statement}
 use Rattle.starts.proofs.start.processor_start.Tie as tie
@@ -31,8 +31,12 @@ element-copy-out-least c = search needs
 
 loop-holds : tie.Need-loop-holds Inv-loop μ-loop
 loop-holds c =
-    let s = c .before .before .before in
-    (omega arith, omega arith, omega (arith, s .pre .1 (c .before .before .select .result) (omega arith)), least-first (s .args .last .now) (c .before .before .select .result))
+    let s = c .before .before .before in (
+      omega arith,
+      omega arith,
+      omega (arith, s .pre .1 (c .before .before .select .result) (omega arith)),
+      least-first (s .args .last .now) (c .before .before .select .result),
+    )
 
 add-at : tie.Need-add-at Inv-loop μ-loop
 add-at c = omega arith
@@ -55,13 +59,19 @@ loop-less c = search needs
 loop-again : tie.Need-loop-again Inv-loop μ-loop
 loop-again c =
     let s = c .before .before .before .before .before .before .before in
-    omega (arith, least-turn (s .args .last .now) (c .before .before .before .before .before .before .select .result) (c .before .before .before .loop .i) (omega arith))
+    omega (
+      arith,
+      least-turn (s .args .last .now) (c .before .before .before .before .before .before .select .result) (c .before .before .before .loop .i) (omega arith),
+    )
 
 returns : tie.Need-returns Inv-loop μ-loop
 returns c =
     let s = c .before .before .before .before .before in
-    let a = s .args in
-    (λ J L. c .before .loop .inv .3 ∙ least-total (a .shape) J L (a .last .now) (s .pre .0) (a .colour) {i = c .before .loop .i} (c .before .before .before .before .select .ensures .0) (c .before .before .before .select2 .ensures .0) (omega arith), omega arith)
+    let a = s .args in (
+      λ J L. c .before .loop .inv .3 ∙ least-total (a .shape) J L (a .last .now) (s .pre .0) (a .colour) {i = c .before .loop .i}
+          (c .before .before .before .before .select .ensures .0) (c .before .before .before .select2 .ensures .0) (omega arith),
+      omega arith,
+    )
 
 pub processor-start-spec : {M : Type 1} → statement M
 processor-start-spec =

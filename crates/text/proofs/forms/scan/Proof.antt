@@ -7,7 +7,8 @@ use native.Mathlib.Omega.{arith}
 use lib.ListN.{length}
 use denote.Ref.{now}
 use Rattle.rules.proofs.NumeralLaws.{numeral-long}
-use Rattle.text.proofs.ScanLaws.{Scanning, scanning-start, scanning-end, scanning-long, digits-fit, scanning-no-number, scanning-number, sign-fits, scanning-no-sign, scanning-sign}
+use Rattle.text.proofs.ScanLaws.{Scanning, scanning-start, scanning-end, scanning-long, digits-fit, scanning-no-number, scanning-number, sign-fits}
+use Rattle.text.proofs.ScanLaws.{scanning-no-sign, scanning-sign}
 use Rattle.text.proofs.forms.scan.Statement.{statement}
 use Rattle.text.proofs.forms.scan.Tie as tie
 
@@ -33,7 +34,8 @@ returns : tie.Need-returns Inv-loop μ-loop
 returns c =
     let d = c .before .before in
     let t = d .before in
-    sym (scanning-no-number (t .before .before .before .loop .inv) (omega arith) (t .if1 .taken) _ (d .digits .ensures) (sym (c .before .is-numeral .ensures) ∙ not-true _ (c .if2 .taken)))
+    sym (scanning-no-number (t .before .before .before .loop .inv) (omega arith) (t .if1 .taken) _ (d .digits .ensures)
+    (sym (c .before .is-numeral .ensures) ∙ not-true _ (c .if2 .taken)))
 
 value-requires : tie.Need-value-requires Inv-loop μ-loop
 value-requires c κs = numeral-long (now (c .before .before .digits .result)) (sym (c .before .is-numeral .ensures) ∙ not-false _ (c .if2 .left))
@@ -71,7 +73,8 @@ loop-again c =
     let n = w .before .before .before in
     let d = n .before in
     let t = d .before in
-    let r = scanning-number (t .before .before .before .loop .inv) (omega arith) (t .if1 .taken) _ (d .digits .ensures) (sym (n .is-numeral .ensures) ∙ not-false _ (w .before .before .if2 .left)) _ (w .before .value .ensures) in
+    let r = scanning-number (t .before .before .before .loop .inv) (omega arith) (t .if1 .taken) _ (d .digits .ensures)
+    (sym (n .is-numeral .ensures) ∙ not-false _ (w .before .before .if2 .left)) _ (w .before .value .ensures) in
     rw (w .with-number .ensures) r
 
 shared-slice-read-starts-with : tie.Need-shared-slice-read-starts-with Inv-loop μ-loop
@@ -83,17 +86,26 @@ starts-with-requires c κs = search needs
 returns-2 : tie.Need-returns-2 Inv-loop μ-loop
 returns-2 c =
     let e = c .before .before .before in
-    sym (scanning-no-sign (e .before .before .before .loop .inv) (omega arith) (e .if1 .left) (sym (c .before .starts-with .ensures) ∙ not-true _ (c .if3 .taken)))
+    sym (scanning-no-sign (e .before .before .before .loop .inv) (omega arith) (e .if1 .left)
+    (sym (c .before .starts-with .ensures) ∙ not-true _ (c .if3 .taken)))
 
 sub-rest-2 : tie.Need-sub-rest-2 Inv-loop μ-loop
 sub-rest-2 c =
     let e = c .before .before .before in
-    omega (arith, sign-fits (e .before .before .before .loop .inv) (omega arith) (e .if1 .left) (sym (c .before .starts-with .ensures) ∙ not-false _ (c .if3 .left)))
+    omega (
+      arith,
+      sign-fits (e .before .before .before .loop .inv) (omega arith) (e .if1 .left)
+          (sym (c .before .starts-with .ensures) ∙ not-false _ (c .if3 .left)),
+    )
 
 part-rest-start-2 : tie.Need-part-rest-start-2 Inv-loop μ-loop
 part-rest-start-2 c =
     let e = c .before .before .before in
-    omega (arith, sign-fits (e .before .before .before .loop .inv) (omega arith) (e .if1 .left) (sym (c .before .starts-with .ensures) ∙ not-false _ (c .if3 .left)))
+    omega (
+      arith,
+      sign-fits (e .before .before .before .loop .inv) (omega arith) (e .if1 .left)
+          (sym (c .before .starts-with .ensures) ∙ not-false _ (c .if3 .left)),
+    )
 
 part-rest-end-2 : tie.Need-part-rest-end-2 Inv-loop μ-loop
 part-rest-end-2 c = search needs

@@ -3,7 +3,8 @@ use borrow.Author.Needs.{needs}
 use Prim.Native.Nat.{_-_}
 use native.Mathlib.Omega.{arith}
 use lib.ListN.{length}
-use Rattle.text.proofs.FillLaws.{Writing, writing-start, writing-length, writing-within, writing-end, number-room, writing-number, sign-room, writing-sign}
+use Rattle.text.proofs.FillLaws.{Writing, writing-start, writing-length, writing-within, writing-end, number-room, writing-number, sign-room}
+use Rattle.text.proofs.FillLaws.{writing-sign}
 use Rattle.text.proofs.forms.write_form.Statement.{statement}
 use Rattle.text.proofs.forms.write_form.Tie as tie
 

@@ -1,0 +1,41 @@
+// Answers on standard output. Each function stops at the first write that fails, and returns whether all were made.
+ghost use Rattle.console.specs.LongEnough.{LongEnough};
+use frames::Answer;
+use frames::Verdict;
+use libc::STDOUT_FILENO;
+
+// A space and a number.
+pub fn print_number(n: u64) -> bool {
+    io::write_all(STDOUT_FILENO, b" ") && io::print_decimal(STDOUT_FILENO, n)
+}
+
+// `(refused N K)`.
+fn print_refusal(number: u64, place: u64) -> bool {
+    io::write_all(STDOUT_FILENO, b"(refused")
+        && print_number(number)
+        && print_number(place)
+        && io::write_all(STDOUT_FILENO, b")\n")
+}
+
+// `(accepted S b r)`, or the refusal.
+pub fn print_verdict(v: Verdict) -> bool {
+    if v.number != 0 {
+        return print_refusal(v.number, v.place);
+    }
+    io::write_all(STDOUT_FILENO, b"(accepted")
+        && print_number(v.span)
+        && print_number(v.blue_peak)
+        && print_number(v.red_peak)
+        && io::write_all(STDOUT_FILENO, b")\n")
+}
+
+// The timetable that a planner wrote, or its refusal.
+pub fn print_answer(a: Answer, out: &[u8]) -> bool
+    requires { ⌜ LongEnough a (now out) ⌝ }
+{
+    if a.number != 0 {
+        return print_refusal(a.number, a.place);
+    }
+    let n = a.place as usize;
+    io::write_all(STDOUT_FILENO, &out[..n])
+}

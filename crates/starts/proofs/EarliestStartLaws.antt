@@ -1,0 +1,90 @@
+-- Start 1 over the array of last finishes, and the four starts together.
+use Prim.Native.Nat.{ℕ, suc, _+_, _<_, _≤_, min, max, pred}
+use mathlib.Core.Bool.{Bool, true, false, cond}
+use mathlib.Core.List.{List}
+use mathlib.Core.Option.{none, some}
+use mathlib.Core.Path.{_≡_, refl, _∙_, ap}
+use native.Mathlib.Omega.{arith}
+use native.Mathlib.Nat.{add-zero}
+use lib.ListN.{getD}
+use Rattle.rules.specs.Count.{minUpTo}
+use Rattle.rules.specs.Model.{Instance, Schedule}
+use Rattle.rules.specs.Scheduling.{Partial, processorStart, freeFrom, latest, delayed, earliestStart}
+use Rattle.rules.proofs.CountLaws.{min-cong}
+use Rattle.model.specs.declared.layout.Shape.{Shape}
+use Rattle.model.specs.Layout.{Job, Entries, instanceFrom, scheduleFrom, colourBy, partialFrom, countIn, Processors}
+use Rattle.model.proofs.LayoutLaws.{last-finish-at}
+use Rattle.starts.specs.declared.memory.Free.{Free}
+use Rattle.starts.specs.declared.memory.Free.the-variants.{Nowhere, From}
+use Rattle.starts.specs.declared.demand.Demand.{Demand}
+use Rattle.starts.specs.Demands.{DemandOf}
+use Rattle.starts.specs.FreeMemory.{asOption, tickOf}
+
+-- ---- the greatest of the four
+
+pub tick-of : {a : Free} {x : ℕ} → a ≡ From x → tickOf a ≡ x
+tick-of e = rw e
+
+module _ (p : ℕ) (a b : Free) (d : ℕ) where
+  pub latest-first : a ≡ Nowhere → none ≡ latest (some p) (latest (asOption a) (delayed (asOption b) d))
+  latest-first e = rw e
+
+  pub latest-second : {x : ℕ} → a ≡ From x → b ≡ Nowhere → none ≡ latest (some p) (latest (asOption a) (delayed (asOption b) d))
+  latest-second e g = rw (e, g)
+
+  pub latest-both : {x y r : ℕ} → a ≡ From x → b ≡ From y → r ≡ max p (max x (y + d))
+      → some r ≡ latest (some p) (latest (asOption a) (delayed (asOption b) d))
+  latest-both e g q = rw (e, g, q)
+
+-- ---- start 1
+
+module _ (last : List ℕ) (first : ℕ) where
+  abbrev at : ℕ → ℕ
+  at p = getD last (first + p) 0
+
+  pub least-first : getD last first 0 ≡ minUpTo (pred 1) at
+  unfolding minUpTo
+  least-first = rw (add-zero first)
+
+  pub least-turn : (i : ℕ) → 1 ≤ i → minUpTo (pred (i + 1)) at ≡ min (minUpTo (pred i) at) (getD last (first + i) 0)
+  unfolding minUpTo
+  least-turn i h =
+      let e : pred (i + 1) ≡ suc (pred i) = omega arith in
+      let g : suc (pred i) ≡ i = omega arith in
+      rw e (ap (λ j. min (minUpTo (pred i) at) (at j)) g)
+
+module _ (b : Shape) (J : Job) (L : Entries) (last : List ℕ) where
+  abbrev I : Instance
+  I = instanceFrom b J
+
+  abbrev P : Schedule
+  P = scheduleFrom b L
+
+  abbrev Q : Partial
+  Q = partialFrom b L last
+
+  slot : (p q : ℕ) → q ≡ p → q < b .board .blue .processors + b .board .red .processors → getD (Q .lastFinish) q 0 ≡ getD last p 0
+  slot p q e l = last-finish-at b L last q l ∙ ap (λ p. getD last p 0) e
+
+  module _ (f : Processors b) where
+    least-finish : (c : Bool) → processorStart I Q (colourBy c)
+        ≡ minUpTo (pred (countIn b c)) (at last (cond c 0 (b .board .blue .processors)))
+    unfolding processorStart instanceFrom
+    least-finish true = min-cong (pred (b .board .blue .processors)) _ _ (λ p l. slot (0 + p) p (omega arith) (omega (arith, f .blue .least)))
+    least-finish false =
+        let m = b .board .blue .processors in
+        min-cong (pred (b .board .red .processors)) _ _ (λ p l. slot (m + p) (m + p) refl (omega (arith, f .red .least)))
+
+    pub least-total : (c : Bool) {first n i : ℕ} → first ≡ cond c 0 (b .board .blue .processors) → n ≡ countIn b c
+        → i ≡ n → minUpTo (pred i) (at last first) ≡ processorStart I Q (colourBy c)
+    least-total c x y z = rw (x, z, y, least-finish c)
+
+  -- ---- the four starts
+
+  pub earliest-at : (i : ℕ) (c : Bool) {d : Demand} (x y z : Free) {one r : ℕ}
+      → DemandOf I P i (colourBy c) d → one ≡ processorStart I Q (colourBy c) → r ≡ max one (d .arrival)
+      → asOption x ≡ freeFrom I P (colourBy c) (d .incoming + d .outputs) → asOption y ≡ freeFrom I P (colourBy c) (d .incoming)
+      → asOption z ≡ latest (some r) (latest (asOption x) (delayed (asOption y) (d .longest)))
+      → asOption z ≡ earliestStart I Q i (colourBy c)
+  unfolding earliestStart
+  earliest-at i c x y z e e1 er ex ey ez = ez ∙ rw (ex, ey, er, e1, e .arrival, e .incoming, e .outputs, e .longest)

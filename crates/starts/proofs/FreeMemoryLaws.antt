@@ -1,0 +1,73 @@
+-- What the code finds of a memory, as the rules have it: whether an amount fits at a tick, the late ends, and the answer that they give.
+use Prim.Native.Nat.{ℕ, _+_, _-_, _≤_, pred}
+use mathlib.Core.Bool.{Bool, true, false, cond}
+use mathlib.Core.Option.{none, some}
+use mathlib.Core.Path.{_≡_, sym, _∙_, ap}
+use native.Mathlib.Numerals.{sub-one}
+use native.Mathlib.Omega.{arith}
+use lib.Dec.{leb}
+use Rattle.rules.specs.Count.{maxBelow}
+use Rattle.rules.specs.Model.{Colour, Instance, Schedule}
+use Rattle.rules.specs.Residency.{Hold as Held, never, during, since, settles, holdOf, held, horizon}
+use Rattle.rules.specs.Scheduling.{fits, freeFrom}
+use Rattle.rules.proofs.Tests.{cond-zero}
+use Rattle.rules.proofs.ResidencyLaws.{free-nowhere}
+use Rattle.model.specs.declared.layout.Shape.{Shape}
+use Rattle.model.specs.declared.residency.Hold.{Hold}
+use Rattle.model.specs.Layout.{Job, Entries, instanceFrom, scheduleFrom, colourBy}
+use Rattle.model.specs.Holds.{asHold}
+use Rattle.model.proofs.LayoutLaws.{file-count, limit-of}
+use Rattle.starts.specs.FreeMemory.{endOf, lateEnd}
+use Rattle.starts.proofs.LateEndLaws.{free-latest}
+
+-- a hold changes no more from its end on
+pub end-settles : (h : Held) → endOf h ≤ settles h
+end-settles never = omega arith
+end-settles (during a b) = omega arith
+end-settles (since a) = omega arith
+
+module _ (b : Shape) (J : Job) (L : Entries) (need : ℕ) where
+  abbrev I : Instance
+  I = instanceFrom b J
+
+  abbrev P : Schedule
+  P = scheduleFrom b L
+
+  pub fits-at : (c : Bool) (t : ℕ) {v l : ℕ} → v ≡ held I P (colourBy c) t → l ≡ cond c (b .board .blue .limit) (b .board .red .limit)
+      → leb (v + need) l ≡ fits I P (colourBy c) need t
+  unfolding fits
+  fits-at c t e g = rw (e, g, limit-of b J c)
+
+  module _ (c : Colour) where
+    -- one file
+    module _ (k : ℕ) (x : Hold) {e : ℕ} (g : asHold x ≡ holdOf I P c k) (q : e ≡ endOf (asHold x)) where
+      same-end : endOf (holdOf I P c k) ≡ e
+      same-end = ap endOf (sym g) ∙ sym q
+
+      pub late-none : e ≡ 0 → 0 ≡ lateEnd I P c need k
+      unfolding lateEnd
+      late-none z = rw (same-end, z) (sym (cond-zero (fits I P c need (pred 0))))
+
+      module _ {y : Bool} (t : y ≡ fits I P c need (e - 1)) where
+        pub late-fits : y ≡ true → 0 ≡ lateEnd I P c need k
+        unfolding lateEnd
+        late-fits w = rw (same-end, ← sub-one e, ← t, w)
+
+        pub late-found : y ≡ false → e ≡ lateEnd I P c need k
+        unfolding lateEnd
+        late-found w = rw (same-end, ← sub-one e, ← t, w)
+
+    -- all files
+    pub late-total : {n : ℕ} → n ≡ b .files → maxBelow n (lateEnd I P c need) ≡ maxBelow (b .files) (lateEnd I P c need)
+    late-total e = rw e
+
+    module _ {h : ℕ} {y : Bool} (g : h ≡ horizon I P c) (q : y ≡ fits I P c need h) where
+      pub free-found : y ≡ true → {r : ℕ} → r ≡ maxBelow (b .files) (lateEnd I P c need) → some r ≡ freeFrom I P c need
+      free-found t e =
+          let z : fits I P c need (horizon I P c) ≡ true = rw g at (sym q ∙ t) in
+          rw (free-latest I P c need z, e, file-count b J)
+
+      pub free-none : y ≡ false → none ≡ freeFrom I P c need
+      free-none t =
+          let z : fits I P c need (horizon I P c) ≡ false = rw g at (sym q ∙ t) in
+          rw (free-nowhere I P c need z)

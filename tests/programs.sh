@@ -1,0 +1,141 @@
+#!/bin/bash
+# Runs the programs of target/bin as a user does, and compares what each case writes to standard output and to standard error.
+set -euo pipefail
+cd "$(dirname "$0")/.."
+export PATH="$PWD/target/bin:$PATH"
+examples=$PWD/examples
+folder=$(mktemp -d)
+trap 'rm -rf "$folder"' EXIT
+mkdir "$folder/run"
+cd "$folder/run"
+
+cases=0
+# expect NAME COMMAND OUTPUT ERRORS: the command succeeds, and writes just that.
+expect() {
+    printf '%s' "$3" > ../output.expected
+    printf '%s' "$4" > ../errors.expected
+    bash -c "$2" > ../output 2> ../errors || { echo "programs: $1: exit status $?"; exit 1; }
+    diff -u ../output.expected ../output || { echo "programs: $1: standard output differs"; exit 1; }
+    diff -u ../errors.expected ../errors || { echo "programs: $1: standard error differs"; exit 1; }
+    cases=$((cases + 1))
+}
+
+# ---- the files
+cp "$examples/course.sheet" sheet
+cp "$examples/course.memheft" paper
+timetable=$(cat paper)$'\n'
+mkdir folder
+sed 's/(task 2 3 5)/(task 2 0 5)/' sheet > bad.sheet
+sed 's/6)/4)/g' sheet > tight.sheet
+head -n 1 sheet > board.sheet
+for n in 32768 32769 40000 65536 100000; do
+    { cat sheet; yes '(file 1 2 2 1)'; } 2> /dev/null | head -c "$n" > "$n.sheet" || true
+    { cat paper; yes '(claim 8 5 5)'; } 2> /dev/null | head -c "$n" > "$n.paper" || true
+done
+sed 's/(run 3 1 6)/(run 3 1 5)/' paper > early.paper
+sed 's/(run 2 1 3)/(run 2 01 3)/' paper > zero.paper
+head -n 5 paper > short.paper
+sed '2s/.*//' paper > empty_line.paper
+{ head -n 1 paper; printf '(run\t2 1\\ 3)\033[31m\377\n'; tail -n +3 paper; } > control.paper
+escaped='(run\x092 1\\ 3)\x1b[31m\xff'
+head -c 2500 /dev/zero > zeros.paper
+zeros=$(for i in {1..2500}; do printf '%s' '\x00'; done)
+every='' every_escaped=''
+for i in {0..255}; do
+    hex=$(printf '%02x' "$i")
+    case $hex in
+        0a) continue ;;
+        5c) shown='\\' ;;
+        [2-6]? | 7[0-9a-e]) shown=$(printf "\\x$hex.") shown=${shown%.} ;;
+        *) shown="\\x$hex" ;;
+    esac
+    every+="\\x$hex" every_escaped+=$shown
+done
+printf "$every\n" > every.paper
+name=$'a\033[31m b\\'
+cp paper "$name"
+long=$(head -c 5000 /dev/zero | tr '\0' a)
+path_max=${long:0:4096}
+
+# ---- frameplan
+usage='usage: frameplan [memheft|memminmin] < SHEET'$'\n'
+expect 'a good sheet' 'frameplan < sheet' "$timetable" ''
+expect 'MemHEFT by name' 'frameplan memheft < sheet' "$timetable" ''
+expect 'MemMinMin by name' 'frameplan memminmin < sheet' "$timetable" ''
+expect 'a sheet that comes in pieces' '{ head -c 50 sheet; sleep 0.2; tail -c +51 sheet; } | frameplan' "$timetable" ''
+expect 'a refused sheet' 'frameplan < bad.sheet' $'(refused 3 3)\n' ''
+expect 'a planner that is stuck' 'frameplan < tight.sheet' $'(refused 21 0)\n' ''
+expect 'empty input' 'frameplan < /dev/null' $'(refused 2 1)\n' ''
+expect 'the longest sheet that is read' 'frameplan < 32768.sheet' $'(refused 4 7)\n' ''
+expect 'a sheet of 32769 bytes' 'frameplan < 32769.sheet' $'(refused 1 0)\n' ''
+expect 'a sheet of 40000 bytes' 'frameplan < 40000.sheet' $'(refused 1 0)\n' ''
+expect 'a sheet that fills the buffer' 'frameplan < 65536.sheet' $'(refused 1 0)\n' ''
+expect 'a sheet of 100000 bytes' 'frameplan < 100000.sheet' $'(refused 1 0)\n' ''
+expect 'a sheet of 40000 bytes in pieces' '{ head -c 20000 40000.sheet; sleep 0.2; tail -c +20001 40000.sheet; } | frameplan' $'(refused 1 0)\n' ''
+expect 'input without end' 'frameplan < /dev/zero' $'(refused 1 0)\n' ''
+expect 'a directory as input' 'frameplan < .' '' $'frameplan: standard input: Is a directory\n'
+expect 'closed standard input' 'frameplan <&-' '' $'frameplan: standard input: Bad file descriptor\n'
+expect 'no room for the timetable' 'frameplan < sheet > /dev/full' '' $'frameplan: standard output: No space left on device\n'
+expect 'no room for a refusal' 'frameplan < /dev/null > /dev/full' '' $'frameplan: standard output: No space left on device\n'
+expect 'closed standard output' 'frameplan < sheet >&-' '' $'frameplan: standard output: Bad file descriptor\n'
+expect 'an unknown planner' 'frameplan heft < sheet' '' "$usage"
+expect 'an empty argument' 'frameplan "" < sheet' '' "$usage"
+expect 'an argument longer than a planner name' "frameplan $long < sheet" '' "$usage"
+expect 'two arguments' 'frameplan memheft sheet' '' "$usage"
+
+# ---- framemark, one paper
+usage='usage: framemark SHEET PAPER ..'$'\n'
+accepted=$'(accepted 8 5 5)\n'
+expect 'an accepted paper' 'framemark sheet paper' "$accepted" ''
+expect 'a paper that comes in pieces' 'framemark sheet <(head -c 30 paper; sleep 0.2; tail -c +31 paper)' "$accepted" ''
+expect 'closed standard input, which is not read' 'framemark sheet paper <&-' "$accepted" ''
+expect 'a line at fault' 'framemark sheet zero.paper' $'(refused 12 2)\n(run 2 01 3)\n' ''
+expect 'a line at fault of the sheet' 'framemark bad.sheet paper' $'(refused 3 3)\n(task 2 0 5)\n' ''
+expect 'a fault of no line' 'framemark sheet early.paper' $'(refused 15 2)\n' ''
+expect 'an absent line' 'framemark sheet short.paper' $'(refused 12 6)\n' ''
+expect 'an absent line of the sheet' 'framemark board.sheet paper' $'(refused 2 2)\n' ''
+expect 'an empty line' 'framemark sheet empty_line.paper' $'(refused 12 2)\n' ''
+expect 'an empty paper' 'framemark sheet /dev/null' $'(refused 12 1)\n' ''
+expect 'control bytes in the line at fault' 'framemark sheet control.paper' $'(refused 12 2)\n'"$escaped"$'\n' ''
+expect 'every byte in the line at fault' 'framemark sheet every.paper' $'(refused 12 1)\n'"$every_escaped"$'\n' ''
+expect 'a long line at fault' 'framemark sheet zeros.paper' $'(refused 12 1)\n'"$zeros"$'\n' ''
+expect 'the longest paper that is read' 'framemark sheet 32768.paper' $'(refused 14 7)\n(claim 8 5 5)\n' ''
+expect 'a paper of 32769 bytes' 'framemark sheet 32769.paper' $'(refused 11 0)\n' ''
+expect 'a paper of 40000 bytes' 'framemark sheet 40000.paper' $'(refused 11 0)\n' ''
+expect 'a paper of 100000 bytes' 'framemark sheet 100000.paper' $'(refused 11 0)\n' ''
+expect 'a sheet of 40000 bytes to mark on' 'framemark 40000.sheet paper' $'(refused 1 0)\n' ''
+expect 'a sheet of 100000 bytes to mark on' 'framemark 100000.sheet paper' $'(refused 1 0)\n' ''
+expect 'a missing sheet' 'framemark missing paper' '' $'framemark: missing: No such file or directory\n'
+expect 'a missing paper' 'framemark sheet missing' '' $'framemark: missing: No such file or directory\n'
+expect 'a directory as sheet' 'framemark . paper' '' $'framemark: .: Is a directory\n'
+expect 'a directory as paper' 'framemark sheet folder' '' $'framemark: folder: Is a directory\n'
+expect 'a name below a file' 'framemark sheet paper/x' '' $'framemark: paper/x: Not a directory\n'
+expect 'an empty name' 'framemark sheet ""' '' $'framemark: : No such file or directory\n'
+expect 'a missing name with control bytes' "framemark sheet \$'x\\033[2J'" '' $'framemark: x\\x1b[2J: No such file or directory\n'
+expect 'a name as long as the buffer' "framemark sheet $path_max" '' "framemark: $path_max: File name too long"$'\n'
+expect 'a name longer than the buffer' "framemark sheet $long" '' $'framemark: argument 2: File name too long\n'
+expect 'a sheet name longer than the buffer' "framemark $long paper" '' $'framemark: argument 1: File name too long\n'
+expect 'no room for the verdict' 'framemark sheet paper > /dev/full' '' $'framemark: standard output: No space left on device\n'
+expect 'no room for the line at fault' 'framemark sheet zero.paper > /dev/full' '' $'framemark: standard output: No space left on device\n'
+expect 'closed standard output for a verdict' 'framemark sheet paper >&-' '' $'framemark: standard output: Bad file descriptor\n'
+expect 'no argument' 'framemark' '' "$usage"
+expect 'one argument' 'framemark sheet' '' "$usage"
+
+# ---- framemark, several papers
+expect 'several papers' 'framemark sheet paper zero.paper early.paper' \
+    $'paper (accepted 8 5 5)\nzero.paper (refused 12 2)\nearly.paper (refused 15 2)\n' ''
+expect 'several papers, one missing, one a directory' 'framemark sheet paper missing folder zero.paper' \
+    $'paper (accepted 8 5 5)\nzero.paper (refused 12 2)\n' \
+    $'framemark: missing: No such file or directory\nframemark: folder: Is a directory\n'
+expect 'several papers, one with a name longer than the buffer' "framemark sheet $long paper" \
+    $'paper (accepted 8 5 5)\n' $'framemark: argument 2: File name too long\n'
+expect 'several papers on a refused sheet' 'framemark bad.sheet paper zero.paper' $'paper (refused 3 3)\nzero.paper (refused 3 3)\n' ''
+expect 'several papers, no sheet' 'framemark missing paper zero.paper' '' $'framemark: missing: No such file or directory\n'
+expect 'a name with control bytes' "framemark sheet paper \$'a\\033[31m b\\\\'" \
+    $'paper (accepted 8 5 5)\na\\x1b[31m b\\\\ (accepted 8 5 5)\n' ''
+expect 'several papers, no room for the verdicts' 'framemark sheet paper zero.paper > /dev/full' '' \
+    $'framemark: standard output: No space left on device\n'
+expect 'several papers, closed standard output' 'framemark sheet paper zero.paper >&-' '' \
+    $'framemark: standard output: Bad file descriptor\n'
+
+echo "programs: $cases cases as expected"
