@@ -1,13 +1,13 @@
 -- What the instance and the schedule made of the arrays are, by index, and the bounds of a well-formed instance's arrays.
 use Prim.Native.Nat.{ℕ, _+_, _≤_, _<_}
-use mathlib.Core.Bool.{Bool, true, false, cond, not}
+use mathlib.Core.Bool.{Bool, true, false, cond}
 use mathlib.Core.List.{List}
 use mathlib.Core.Path.{_≡_, refl, sym, ap, _∙_}
 use native.Mathlib.Omega.{arith}
-use lib.Dec.{ltb, leb, eqb}
+use lib.Dec.{leb, eqb}
 use lib.ListN.{getD}
-use Rattle.rules.specs.Model.{blue, red, sameColour, Instance, Schedule, Task, fileAt, fileCount, taskAt, taskCount, limitOf, sideOf, timeOn, runAt, moveAt, sizeAt, moveTimeAt, finishAt, moved}
-use Rattle.rules.specs.Residency.{never, closedHold, openHold, holdBy, holdOf}
+use Rattle.rules.specs.Model.{blue, red, Instance, Task, fileAt, fileCount, taskAt, taskCount, limitOf, sideOf, timeOn, sizeAt, moveTimeAt}
+use Rattle.rules.specs.Model.{Schedule, runAt, moveAt, finishAt}
 use Rattle.rules.specs.Scheduling.{reads, makes, finishOn}
 use Rattle.rules.specs.Limits.{processorCounts, runTimes}
 use Rattle.rules.specs.Promises.{In, WellFormed}
@@ -89,7 +89,8 @@ module _ (b : Shape) (L : Entries) where
   move-at k h = getD-listBelow (b .files) (λ k. L .moveStart k) k 0 h
 
   -- the last finish of each processor
-  pub last-finish-at : (last : List ℕ) (p : ℕ) → p < b .board .blue .processors + b .board .red .processors → getD (partialFrom b L last .lastFinish) p 0 ≡ getD last p 0
+  pub last-finish-at : (last : List ℕ) (p : ℕ) → p < b .board .blue .processors + b .board .red .processors
+      → getD (partialFrom b L last .lastFinish) p 0 ≡ getD last p 0
   last-finish-at last p h = getD-listBelow (b .board .blue .processors + b .board .red .processors) (λ p. getD last p 0) p 0 h
 
 module _ {b : Shape} {J : Job} {L : Entries} (f : Bounds b J L) where
@@ -102,36 +103,6 @@ module _ {b : Shape} {J : Job} {L : Entries} (f : Bounds b J L) where
   pub finish-at : {i : ℕ} → i < b .tasks → {s time : ℕ} {x : Bool} → s ≡ L .start i → x ≡ isBlue b L i → time ≡ cond x (J .onBlue i) (J .onRed i)
       → s + time ≡ finishAt I P i
   finish-at {i} h p q e = rw (run-at b L i h, task-at b J i h, processors-of b J true, time-by, p, e, q)
-
-  module _ {k : ℕ} (h : k < b .files) where
-    abbrev m : ℕ
-    m = J .maker k
-
-    abbrev d : ℕ
-    d = J .reader k
-
-    pub moved-at : (s : Bool) → s ≡ sameColour (colourBy (isBlue b L m)) (colourBy (isBlue b L d)) → not s ≡ moved I P k
-    moved-at s e = rw (e, file-at b J k h, run-at b L m (f .job .maker k h), run-at b L d (f .job .reader k h), processors-of b J true)
-
-    hold-at : (c s e : Bool) (released : ℕ) → s ≡ sameColour (colourBy (isBlue b L m)) (colourBy (isBlue b L d)) → e ≡ sameColour (colourBy (isBlue b L m)) (colourBy c)
-        → released ≡ finishAt I P d →
-        cond (ltb 0 (L .processor m)) (cond (ltb 0 (L .processor d))
-        (closedHold (not s) e (L .start m) (L .moveStart k) (L .moveStart k + J .moveTime k) released)
-        (openHold e (L .start m))) never ≡ holdOf I P (colourBy c) k
-    unfolding holdBy
-    hold-at c s e released p q r =
-        rw (p, q, r, file-at b J k h, move-at b L k h, run-at b L m (f .job .maker k h), run-at b L d (f .job .reader k h), processors-of b J true)
-
-    -- the hold, from what the accessors read
-    module _ {i j p q begun departs takes released : ℕ} {from to s e : Bool} (c : Bool)
-        (maker : i ≡ m) (reader : j ≡ d) (from-is : from ≡ isBlue b L i) (to-is : to ≡ isBlue b L j)
-        (moves : s ≡ sameColour (colourBy from) (colourBy to)) (here : e ≡ sameColour (colourBy from) (colourBy c))
-        (by : p ≡ L .processor i) (for : q ≡ L .processor j) (start : begun ≡ L .start i)
-        (leaves : departs ≡ L .moveStart k) (time : takes ≡ J .moveTime k) (ends : released ≡ finishAt I P j) where
-      pub hold-from : cond (ltb 0 p) (cond (ltb 0 q) (closedHold (not s) e begun departs (departs + takes) released) (openHold e begun)) never ≡ holdOf I P (colourBy c) k
-      hold-from =
-          rw (by, for, start, leaves, time, maker, reader)
-          (hold-at c s e released (rw (moves, from-is, to-is, maker, reader)) (rw (here, from-is, maker)) (rw (ends, reader)))
 
 -- the arrays of a well-formed instance are in their bounds
 module _ (b : Shape) (J : Job) (w : WellFormed (instanceFrom b J)) where

@@ -8,5 +8,9 @@ pub mod HoldCases
 pub mod LayoutLaws
 -- crossing files
 pub mod CrossingLaws
+-- what the two runs of a file imply: whether it moves, its times and its hold
+pub mod FileLaws
 -- the loops over the files
 pub mod ResidencyLoops
+-- the arrays of a schedule that the due lines can spell
+pub mod SpelledLaws

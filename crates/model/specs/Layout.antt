@@ -167,3 +167,7 @@ mostHeld = fileSizes .most * maxFiles
 -- no last finish of a processor is later
 abbrev pub LastBounds : Shape → List ℕ → Type 0
 LastBounds b last = Bounded lastTick (b .board .blue .processors + b .board .red .processors) (λ p. getD last p 0)
+
+-- every task is placed
+abbrev pub Placed : Shape → Entries → Type 0
+Placed b L = (i : ℕ) → i < b .tasks → 0 < L .processor i

@@ -1,64 +1,34 @@
 // When a memory holds a file, and how much it holds: document 01's hold rule, for partial schedules too.
 ghost use mathlib.Core.Path.{_≡_};
-ghost use mathlib.Core.Bool.{cond};
 ghost use Prim.Native.Nat.{_<_, _≤_, max};
-ghost use Rattle.rules.specs.Model.{sameColour, finishAt};
-ghost use Rattle.rules.specs.Residency.{closedHold, openHold, never, covers as rules-covers, settles as rules-settles, holdOf, held, horizon};
+ghost use Rattle.rules.specs.Model.{runAt, finishAt, releaseOf};
+ghost use Rattle.rules.specs.Residency.{covers as rules-covers, settles as rules-settles, holdOf, held, horizon};
 ghost use Rattle.model.specs.Layout.{instanceOf, scheduleOf, colourBy, InBounds, lastTick, mostHeld};
-ghost use Rattle.model.specs.Holds.{asHold, Within};
+ghost use Rattle.model.specs.Holds.{TimesOf, TimesWithin, asHold, holdWhen, Within};
 use super::choice::greater;
 use super::choice::value_if;
+use super::crossing::moves;
+use super::crossing::same_colour;
 use super::layout;
 use super::layout::Shape;
+
+// What the two runs of a file imply: whether it moves, and its times. `begun` and `made` are its maker's start and finish,
+// `departs` and `arrives` the start and the end of its move; its reader `starts`, and keeps it until `released`.
+pub struct FileTimes {
+    pub moves: bool,
+    pub begun: u64,
+    pub made: u64,
+    pub departs: u64,
+    pub arrives: u64,
+    pub starts: u64,
+    pub released: u64,
+}
 
 // When a memory holds a file.
 pub enum Hold {
     Never,
     During(u64, u64),
     Since(u64),
-}
-
-// Whether two colours are the same, blue being `true`.
-pub fn same_colour(a: bool, b: bool) -> bool
-    ensures { λ r. ⌜ r ≡ sameColour (colourBy a) (colourBy b) ⌝ }
-{
-    if a { b } else { !b }
-}
-
-// The hold of a file in the memory of its maker's colour (`here`) or of the other: `made` and `read` say whether
-// its maker and its reader are placed, and `moves` whether they run in different memories.
-fn hold_when(
-    made: bool,
-    read: bool,
-    moves: bool,
-    here: bool,
-    begun: u64,
-    departs: u64,
-    arrives: u64,
-    released: u64,
-) -> Hold
-    ensures { λ r. ⌜ asHold r ≡ cond made (cond read (closedHold moves here begun departs arrives released) (openHold here begun)) never ⌝ }
-    ensures { λ r. ⌜ Within (max (max begun departs) (max arrives released)) r ⌝ }
-{
-    if made {
-        if read {
-            if moves {
-                if here {
-                    return Hold::During(begun, arrives);
-                }
-                return Hold::During(departs, released);
-            }
-            if here {
-                return Hold::During(begun, released);
-            }
-            return Hold::Never;
-        }
-        if here {
-            return Hold::Since(begun);
-        }
-        return Hold::Never;
-    }
-    Hold::Never
 }
 
 // Whether the hold covers tick t.
@@ -99,6 +69,75 @@ pub fn finish<'a>(
     layout::start(schedule, i) + time
 }
 
+// Until when task i's run keeps the files that it reads.
+fn release<'a>(
+    shape: Shape,
+    job: &'a [u64; layout::JOB],
+    schedule: &'a [u64; layout::SCHEDULE],
+    i: usize,
+) -> u64
+    requires { ⌜ InBounds shape (now job) (now schedule) ⌝ }
+    requires { ⌜ i < shape .tasks ⌝ }
+    ensures { λ r. ⌜ r ≡
+        releaseOf (instanceOf shape (now (job .entry))) i (runAt (scheduleOf shape (now (schedule .entry))) i) ⌝ }
+    ensures { λ r. ⌜ r ≤ lastTick ⌝ }
+{
+    finish(shape, job, schedule, i)
+}
+
+// What the two runs of file k imply.
+pub fn file_times<'a>(
+    shape: Shape,
+    job: &'a [u64; layout::JOB],
+    schedule: &'a [u64; layout::SCHEDULE],
+    k: usize,
+) -> FileTimes
+    requires { ⌜ InBounds shape (now job) (now schedule) ⌝ }
+    requires { ⌜ k < shape .files ⌝ }
+    ensures { λ r. ⌜ TimesOf (instanceOf shape (now (job .entry))) (scheduleOf shape (now (schedule .entry))) k r ⌝ }
+    ensures { λ r. ⌜ TimesWithin lastTick r ⌝ }
+{
+    let m = layout::maker(job, k) as usize;
+    let d = layout::reader(job, k) as usize;
+    let departs = layout::move_start(schedule, k);
+    FileTimes {
+        moves: moves(shape, job, schedule, k),
+        begun: layout::start(schedule, m),
+        made: finish(shape, job, schedule, m),
+        departs,
+        arrives: departs + layout::move_time(job, k),
+        starts: layout::start(schedule, d),
+        released: release(shape, job, schedule, d),
+    }
+}
+
+// The hold of a file by its times, in the memory of its maker's colour (`here`) or of the other; `placed` and `read` say
+// whether its maker and its reader are placed.
+fn hold_when(placed: bool, read: bool, here: bool, times: FileTimes) -> Hold
+    ensures { λ r. ⌜ asHold r ≡ holdWhen placed read here times ⌝ }
+    ensures { λ r. ⌜ Within (max (max (times .begun) (times .departs)) (max (times .arrives) (times .released))) r ⌝ }
+{
+    if placed {
+        if read {
+            if times.moves {
+                if here {
+                    return Hold::During(times.begun, times.arrives);
+                }
+                return Hold::During(times.departs, times.released);
+            }
+            if here {
+                return Hold::During(times.begun, times.released);
+            }
+            return Hold::Never;
+        }
+        if here {
+            return Hold::Since(times.begun);
+        }
+        return Hold::Never;
+    }
+    Hold::Never
+}
+
 // The hold of file k in the memory of the colour.
 pub fn hold_of<'a>(
     shape: Shape,
@@ -109,24 +148,17 @@ pub fn hold_of<'a>(
 ) -> Hold
     requires { ⌜ InBounds shape (now job) (now schedule) ⌝ }
     requires { ⌜ k < shape .files ⌝ }
-    ensures { λ r. ⌜ asHold r ≡ holdOf (instanceOf shape (now (job .entry))) (scheduleOf shape (now (schedule .entry))) (colourBy colour) k ⌝ }
+    ensures { λ r. ⌜ asHold r ≡
+        holdOf (instanceOf shape (now (job .entry))) (scheduleOf shape (now (schedule .entry))) (colourBy colour) k ⌝ }
     ensures { λ r. ⌜ Within lastTick r ⌝ }
 {
     let m = layout::maker(job, k) as usize;
     let d = layout::reader(job, k) as usize;
-    let from = layout::on_blue(shape, schedule, m);
-    let moves = !same_colour(from, layout::on_blue(shape, schedule, d));
-    let departs = layout::move_start(schedule, k);
-    let arrives = departs + layout::move_time(job, k);
     hold_when(
         0 < layout::processor(schedule, m),
         0 < layout::processor(schedule, d),
-        moves,
-        same_colour(from, colour),
-        layout::start(schedule, m),
-        departs,
-        arrives,
-        finish(shape, job, schedule, d),
+        same_colour(layout::on_blue(shape, schedule, m), colour),
+        file_times(shape, job, schedule, k),
     )
 }
 
@@ -139,7 +171,8 @@ pub fn held_at<'a>(
     t: u64,
 ) -> u64
     requires { ⌜ InBounds shape (now job) (now schedule) ⌝ }
-    ensures { λ r. ⌜ r ≡ held (instanceOf shape (now (job .entry))) (scheduleOf shape (now (schedule .entry))) (colourBy colour) t ⌝ }
+    ensures { λ r. ⌜ r ≡
+        held (instanceOf shape (now (job .entry))) (scheduleOf shape (now (schedule .entry))) (colourBy colour) t ⌝ }
     ensures { λ r. ⌜ r ≤ mostHeld ⌝ }
 {
     let mut sum: u64 = 0;
@@ -160,7 +193,8 @@ pub fn horizon_of<'a>(
     colour: bool,
 ) -> u64
     requires { ⌜ InBounds shape (now job) (now schedule) ⌝ }
-    ensures { λ r. ⌜ r ≡ horizon (instanceOf shape (now (job .entry))) (scheduleOf shape (now (schedule .entry))) (colourBy colour) ⌝ }
+    ensures { λ r. ⌜ r ≡
+        horizon (instanceOf shape (now (job .entry))) (scheduleOf shape (now (schedule .entry))) (colourBy colour) ⌝ }
     ensures { λ r. ⌜ r ≤ lastTick ⌝ }
 {
     let mut most: u64 = 0;

@@ -13,6 +13,7 @@ use Rattle.text.specs.Wrote.{Wrote}
 use Rattle.planner.specs.declared.Outcome.{Outcome}
 use Rattle.planner.specs.declared.Outcome.the-variants as Made
 use Rattle.planner.specs.Outcomes.{asOutcome}
+use Rattle.plan_text.specs.Planning.{planText}
 
 -- ---- the text fits, or not
 
@@ -34,3 +35,6 @@ module _ (R : Planner) (I : Instance) (buffer : List ℕ) (P : Schedule) (r : Ou
 
   pub made-complete : {trials : ℕ} → r ≡ Made.Complete trials → outcome R I ≡ Rules.complete P trials
   made-complete e = sym made ∙ rw e
+
+  pub made-written : {trials : ℕ} {a : Calls.Answer} → r ≡ Made.Complete trials → a ≡ written (planText I P) buffer trials → a ≡ planOn R I buffer
+  made-written e w = w ∙ sym (ap (planMade I buffer) (made-complete e))

@@ -2,17 +2,14 @@
 ghost use mathlib.Core.Path.{_≡_};
 ghost use Rattle.rules.specs.Calls.{written, planOn};
 ghost use Rattle.rules.specs.Promises.{WellFormed};
-ghost use Rattle.rules.specs.ScheduleText.{scheduleText};
-ghost use Rattle.rules.specs.Validity.{trueClaim};
-ghost use Rattle.model.specs.Layout.{entriesOf, instanceOf, scheduleOf, InBounds};
-ghost use Rattle.validator.specs.Complete.{Placed};
+ghost use Rattle.model.specs.Layout.{entriesOf, instanceOf, scheduleOf, InBounds, Placed};
 ghost use Rattle.planner.specs.Outcomes.{asPlanner};
-ghost use Rattle.plan_text.specs.Planning.{asAnswer};
+ghost use Rattle.plan_text.specs.Planning.{planText, asAnswer};
+use claims::true_claim;
 use model::layout;
 use model::layout::Shape;
 use planner::Outcome;
 use planner::Rule;
-use validator::judgement::true_claim;
 
 // A planner's answer: on success the number is 0 and the place the bytes written.
 pub struct Answer {
@@ -37,7 +34,8 @@ fn write_plan<'a>(
 ) -> Answer
     requires { ⌜ InBounds shape (now job) (now schedule) ⌝ }
     requires { ⌜ Placed shape (entriesOf (now schedule)) ⌝ }
-    ensures { λ r. ⌜ asAnswer r (now (out .exit)) ≡ written (scheduleText (instanceOf shape (now (job .entry))) (scheduleOf shape (now (schedule .entry))) (trueClaim (instanceOf shape (now (job .entry))) (scheduleOf shape (now (schedule .entry))))) (now (out .entry)) trials ⌝ }
+    ensures { λ r. ⌜ asAnswer r (now (out .exit)) ≡
+        written (planText (instanceOf shape (now (job .entry))) (scheduleOf shape (now (schedule .entry)))) (now (out .entry)) trials ⌝ }
 {
     let claim = true_claim(shape, job, schedule);
     let size = schedule::schedule_size(shape, job, schedule, claim);

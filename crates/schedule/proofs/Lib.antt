@@ -7,9 +7,9 @@ pub mod CutLaws
 pub mod DueLaws
 -- what the schedule holds
 pub mod StoreLaws
-pub mod CrossingLaws
 -- the loops
 pub mod ReadLoops
+pub mod CrossingLaws
 pub mod ReadLaws
 -- the pieces of the text, its length and its bytes
 pub mod PieceLaws

@@ -1,5 +1,4 @@
 // The timetable's text: its due lines read into a schedule array, and written from one.
-mod crossing;
 mod lines;
 mod reader;
 mod size;

@@ -9,11 +9,11 @@ ghost use Rattle.rules.specs.ScheduleText.{moveOf, readClaim, readMoves, readRu
 ghost use Rattle.model.specs.Layout.{Job, entriesOf, instanceFrom, instanceOf, scheduleOf, Processors, JobInBounds};
 ghost use Rattle.schedule.specs.Lines.{asReading};
 ghost use Rattle.schedule.specs.Reading.{LineAt, Taken, asRead, goesOn, InText, nothing, runsOf};
-use crate::crossing::crosses;
 use crate::lines::Line;
 use crate::lines::fault_of;
 use crate::lines::parse;
 use model::claim::Claim;
+use model::crossing;
 use model::layout;
 use model::layout::Shape;
 use rules::Board;
@@ -144,9 +144,9 @@ fn read_moves<'a>(
     let mut k = line;
     let mut i: usize = 0;
     while i < shape.files {
-        let maker = layout::maker(job, i);
-        let reader = layout::reader(job, i);
-        if crosses(shape, schedule, maker as usize, reader as usize) {
+        if crossing::moves(shape, job, schedule, i) {
+            let maker = layout::maker(job, i);
+            let reader = layout::reader(job, i);
             match move_at(shape, paper, at, maker, reader) {
                 MoveRead::Refused(fault) => return Progress::Refused(fault, k),
                 MoveRead::Start(start, next) => {

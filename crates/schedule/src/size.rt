@@ -9,11 +9,11 @@ ghost use Rattle.rules.specs.ScheduleText.{runLine, moveLine, claimLine, schedu
 ghost use Rattle.model.specs.Layout.{instanceOf, scheduleOf, JobInBounds};
 ghost use Rattle.model.specs.Claims.{asClaim};
 ghost use Rattle.schedule.specs.Sizes.{longest};
-use crate::crossing::crosses;
 use crate::lines::CLAIM_FORM;
 use crate::lines::MOVE_FORM;
 use crate::lines::RUN_FORM;
 use model::claim::Claim;
+use model::crossing;
 use model::layout;
 use model::layout::Shape;
 
@@ -76,9 +76,9 @@ fn moves_size<'a>(
     let mut n: usize = 0;
     let mut k: usize = 0;
     while k < shape.files {
-        let maker = layout::maker(job, k);
-        let reader = layout::reader(job, k);
-        if crosses(shape, schedule, maker as usize, reader as usize) {
+        if crossing::moves(shape, job, schedule, k) {
+            let maker = layout::maker(job, k);
+            let reader = layout::reader(job, k);
             n += move_size(maker + 1, reader + 1, layout::move_start(schedule, k));
             k += 1;
         } else {

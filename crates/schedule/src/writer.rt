@@ -8,11 +8,11 @@ ghost use Rattle.rules.specs.ScheduleText.{runLine, moveLine, claimLine, schedu
 ghost use Rattle.text.specs.Wrote.{Wrote};
 ghost use Rattle.model.specs.Layout.{instanceOf, scheduleOf, JobInBounds};
 ghost use Rattle.model.specs.Claims.{asClaim};
-use crate::crossing::crosses;
 use crate::lines::CLAIM_FORM;
 use crate::lines::MOVE_FORM;
 use crate::lines::RUN_FORM;
 use model::claim::Claim;
+use model::crossing;
 use model::layout;
 use model::layout::Shape;
 
@@ -75,9 +75,9 @@ fn write_moves<'a>(
     let mut at: usize = 0;
     let mut k: usize = 0;
     while k < shape.files {
-        let maker = layout::maker(job, k);
-        let reader = layout::reader(job, k);
-        if crosses(shape, schedule, maker as usize, reader as usize) {
+        if crossing::moves(shape, job, schedule, k) {
+            let maker = layout::maker(job, k);
+            let reader = layout::reader(job, k);
             let start = layout::move_start(schedule, k);
             let n = write_move(&mut out[at..], maker + 1, reader + 1, start);
             at += n;

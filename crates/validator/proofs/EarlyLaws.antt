@@ -1,15 +1,18 @@
 -- The lowest reader of an early file is the lowest task that reads one.
 use Prim.Native.Nat.{ℕ, _<_}
-use mathlib.Core.Bool.{Bool, true, cond, _||_}
-use mathlib.Core.Path.{_≡_}
+use mathlib.Core.Bool.{Bool, true}
+use mathlib.Core.Path.{_≡_, _∙_}
 use native.Mathlib.Omega.{arith}
-use lib.Dec.{eqb, ltb}
+use lib.Dec.{eqb}
 use borrow.Author.Tests.{eqb-true, eq-eqb}
 use Rattle.rules.specs.Count.{firstBelow}
-use Rattle.rules.specs.Model.{Instance, taskCount, fileAt, fileCount, Schedule, startAt, moveAt, moved, madeAt, moveEnd}
+use Rattle.rules.specs.Model.{Instance, taskCount, fileAt, fileCount, Schedule}
 use Rattle.rules.specs.Validity.{early, earlyFor, readsEarly}
 use Rattle.rules.proofs.Tests.{and-true}
 use Rattle.rules.proofs.CountLaws.{any-found, any-some, first-is}
+use Rattle.model.specs.declared.residency.FileTimes.{FileTimes}
+use Rattle.model.specs.Holds.{TimesOf}
+use Rattle.validator.specs.Early.{tooEarly}
 use Rattle.validator.specs.Least.{leastWhere}
 use Rattle.validator.proofs.LeastLaws.{least-default, least-bound, least-reached}
 
@@ -17,11 +20,9 @@ abbrev pub readerOf : Instance → ℕ → ℕ
 readerOf I k = fileAt I k .reader
 
 -- whether a file is early, from its times
-pub early-is : (I : Instance) (P : Schedule) (k : ℕ) {moves : Bool} {made departs arrives starts : ℕ}
-    → moves ≡ moved I P k → made ≡ madeAt I P k → departs ≡ moveAt P k → arrives ≡ moveEnd I P k → starts ≡ startAt P (readerOf I k)
-    → cond moves (ltb departs made || ltb starts arrives) (ltb starts made) ≡ early I P k
+pub early-from : {I : Instance} {P : Schedule} {k : ℕ} {t : FileTimes} {r : Bool} → TimesOf I P k t → r ≡ tooEarly t → r ≡ early I P k
 unfolding early
-early-is I P k p q r s t = rw (p, q, r, s, t)
+early-from times e = e ∙ rw (times .moves, times .made, times .departs, times .arrives, times .starts)
 
 module _ (I : Instance) (P : Schedule) where
   reads-early : (k j : ℕ) → k < fileCount I → early I P k ≡ true → readerOf I k ≡ j → readsEarly I P j ≡ true

@@ -9,7 +9,8 @@ use borrow.Author.Tests.{lt-ltb, le-ltb, eq-eqb, ne-eqb}
 use Rattle.rules.specs.Count.{firstBelow}
 use Rattle.rules.specs.Model.{blue, red, Instance, taskCount, Schedule}
 use Rattle.rules.specs.Residency.{horizon}
-use Rattle.rules.specs.Validity.{Claim, overlaps, readsEarly, makespan, peak, over, trueClaim, sameClaim, Verdict, refusedBy, acceptedWith, judgedClaim, judgedMemory, judgedTiming, judge}
+use Rattle.rules.specs.Validity.{Claim, overlaps, readsEarly, over, trueClaim, sameClaim, Verdict, refusedBy, acceptedWith}
+use Rattle.rules.specs.Validity.{judgedClaim, judgedMemory, judgedTiming, judge}
 
 module _ (I : Instance) (P : Schedule) (claim : Claim) where
   module _ {i n : ℕ} (e : i ≡ firstBelow (taskCount I) (overlaps I P)) (t : taskCount I ≡ n) where
@@ -53,11 +54,6 @@ module _ (I : Instance) (P : Schedule) (claim : Claim) where
     pub judge-18 : {v : Verdict} → v ≡ refusedBy 18 0 → y ≡ false → v ≡ judgedClaim I P claim
     unfolding judgedClaim
     judge-18 r h = r ∙ rw (same h)
-
-pub true-claim : (I : Instance) (P : Schedule) {s b r : ℕ} → s ≡ makespan I P → b ≡ peak I P blue → r ≡ peak I P red
-    → _≡_ {A = Claim} (record { span = s; bluePeak = b; redPeak = r }) (trueClaim I P)
-unfolding trueClaim
-true-claim I P x y z = λ k. record { span = x k; bluePeak = y k; redPeak = z k }
 
 pub same-span : (a b : Claim) → a .span ≢ b .span → false ≡ sameClaim a b
 same-span a b x = rw (ne-eqb (a .span) (b .span) x)

@@ -2,8 +2,8 @@
 
 -- the least value where a test holds
 pub mod LeastLaws
--- totals rise only where a hold starts: the peak and the first instant over a limit
-pub mod RiseLaws
+-- the first instant over a limit
+pub mod OverLaws
 -- the lowest reader of an early file
 pub mod EarlyLaws
 -- the lowest task whose run overlaps another's
@@ -12,5 +12,3 @@ pub mod OverlapLaws
 pub mod JudgeSteps
 -- the loops over the files and the tasks
 pub mod Loops
--- the arrays of a schedule that the due lines can spell
-pub mod SpelledLaws

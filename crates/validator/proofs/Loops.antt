@@ -1,6 +1,6 @@
 -- One turn of each loop over the files or the tasks, and what it comes to after all of them; and what the accessors read.
-use Prim.Native.Nat.{ℕ, _+_, _≤_, _<_, max, min}
-use mathlib.Core.Bool.{Bool, true, false, not, cond, _||_}
+use Prim.Native.Nat.{ℕ, _+_, _≤_, _<_, min}
+use mathlib.Core.Bool.{Bool, true, false, cond}
 use mathlib.Core.Path.{_≡_, sym, ap, _∙_}
 use native.Mathlib.Omega.{arith}
 use native.Mathlib.Decide.{ℕ-discrete}
@@ -8,29 +8,25 @@ use mathlib.Core.List.{List}
 use lib.Dec.{ltb}
 use lib.ListN.{length, set}
 use lib.Seq.{getD-set-same, getD-set-other}
-use borrow.Author.Tests.{lt-ltb, le-ltb}
-use Rattle.rules.specs.Count.{maxBelow, firstBelow}
-use Rattle.rules.specs.Model.{Colour, blue, red, sameColour, Instance, Schedule, taskCount, fileCount, startAt, finishAt, isPlaced, runAt, makerRun, readerRun}
-use Rattle.rules.specs.Residency.{holdOf, held}
-use Rattle.rules.specs.Validity.{overlaps, early, readsEarly, makespan, peak, over}
-use Rattle.rules.proofs.CompleteLaws.{none-held}
+use borrow.Author.Tests.{le-ltb}
+use Rattle.rules.specs.Count.{firstBelow}
+use Rattle.rules.specs.Model.{Colour, blue, red, Instance, Schedule, taskCount, fileCount, finishAt}
+use Rattle.rules.specs.Residency.{held}
+use Rattle.rules.specs.Validity.{overlaps, early, readsEarly, over}
 use Rattle.model.specs.declared.layout.Shape.{Shape}
-use Rattle.model.specs.declared.residency.Hold.{Hold}
-use Rattle.model.specs.Layout.{Job, Entries, Bounds, instanceFrom, scheduleFrom, colourBy}
-use Rattle.model.specs.Holds.{asHold}
-use Rattle.model.proofs.LayoutLaws.{file-count, task-count, maker-at, reader-at, move-time-at, run-at, move-at, limit-of, isBlue, moved-at}
-use Rattle.model.proofs.StepLaws.{max-next}
+use Rattle.model.specs.Layout.{Job, Entries, Bounds, instanceFrom, scheduleFrom}
+use Rattle.model.proofs.LayoutLaws.{file-count, task-count, reader-at, run-at, limit-of}
+use Rattle.claims.specs.Starts.{startIn}
 use Rattle.runs.specs.declared.Run.{Run}
 use Rattle.runs.specs.First.{FirstOverlap}
 use Rattle.runs.specs.Scan.{noRun}
-use Rattle.validator.specs.Complete.{Placed}
 use Rattle.validator.specs.Least.{leastWhere}
 use Rattle.validator.specs.Records.{recordAt, Records}
-use Rattle.validator.specs.Starts.{startOf, startIn, heldAtStart, overAtStart, firstOverIn}
-use Rattle.validator.proofs.EarlyLaws.{readerOf, early-is, first-early}
+use Rattle.validator.specs.OverLimit.{overAtStart, firstOverIn}
+use Rattle.validator.proofs.EarlyLaws.{readerOf, first-early}
 use Rattle.validator.proofs.LeastLaws.{least-turn}
 use Rattle.validator.proofs.OverlapLaws.{lowest-overlapping}
-use Rattle.validator.proofs.RiseLaws.{over-by, over-is, peak-starts, first-over}
+use Rattle.validator.proofs.OverLaws.{over-by, over-is, first-over}
 
 module _ {b : Shape} {J : Job} {L : Entries} (f : Bounds b J L) where
   abbrev I : Instance
@@ -60,75 +56,25 @@ module _ {b : Shape} {J : Job} {L : Entries} (f : Bounds b J L) where
 
   -- ---- 16
 
-  module _ {k : ℕ} (h : k < b .files) where
-    abbrev m : ℕ
-    m = J .maker k
-
-    abbrev d : ℕ
-    d = J .reader k
-
-    -- whether a file is early, from what the accessors read
-    module _ {i j made departs takes starts : ℕ} {from to s : Bool} (maker : i ≡ m) (reader : j ≡ d)
-        (from-is : from ≡ isBlue b L i) (to-is : to ≡ isBlue b L j) (moves : s ≡ sameColour (colourBy from) (colourBy to))
-        (leaves : departs ≡ L .moveStart k) (time : takes ≡ J .moveTime k) (made-is : made ≡ finishAt I P i) (starts-is : starts ≡ L .start j) where
-      pub early-from : {r : Bool} → r ≡ cond (not s) (ltb departs made || ltb starts (departs + takes)) (ltb starts made) → r ≡ early I P k
-      early-from e = e ∙ early-is I P k
-          (moved-at f h s (rw (moves, from-is, to-is, maker, reader)))
-          (made-is ∙ ap (finishAt I P) (maker ∙ sym (maker-at b J k h)))
-          (leaves ∙ sym (move-at b L k h))
-          (omega (arith, leaves, time, move-at b L k h, move-time-at b J k h))
-          (starts-is ∙ ap (L .start) reader ∙ sym (ap (λ r. r .start) (run-at b L d (f .job .reader k h))) ∙ ap (startAt P) (sym (reader-at b J k h)))
-
-    pub early-turn : (n : ℕ) {x : Bool} {j r : ℕ} → x ≡ early I P k → j ≡ J .reader k → r ≡ cond x j n
-        → leastWhere (k + 1) n (early I P) (readerOf I) ≡ min (leastWhere k n (early I P) (readerOf I)) r
-    early-turn n g q e = least-turn n (early I P) (readerOf I) k e g (q ∙ sym (reader-at b J k h))
+  pub early-turn : {k : ℕ} → k < b .files → (n : ℕ) {x : Bool} {j r : ℕ} → x ≡ early I P k → j ≡ J .reader k → r ≡ cond x j n
+      → leastWhere (k + 1) n (early I P) (readerOf I) ≡ min (leastWhere k n (early I P) (readerOf I)) r
+  early-turn {k} h n g q e = least-turn n (early I P) (readerOf I) k e g (q ∙ sym (reader-at b J k h))
 
   pub early-total : {n : ℕ} → n ≡ b .files → leastWhere n (b .tasks) (early I P) (readerOf I) ≡ firstBelow (taskCount I) (readsEarly I P)
   early-total {n} e =
-      let z : leastWhere n (b .tasks) (early I P) (readerOf I) ≡ leastWhere (fileCount I) (taskCount I) (early I P) (readerOf I) = rw (file-count b J, task-count b J, e) in
+      let z : leastWhere n (b .tasks) (early I P) (readerOf I) ≡ leastWhere (fileCount I) (taskCount I) (early I P) (readerOf I) =
+      rw (file-count b J, task-count b J, e) in
       z ∙ first-early I P
 
-  -- ---- makespan
-
-  pub span-total : {n : ℕ} → n ≡ b .tasks → maxBelow n (finishAt I P) ≡ makespan I P
-  unfolding makespan
-  span-total e = rw (task-count b J, e)
-
-  -- ---- the peaks
+  -- ---- 17
 
   module _ (c : Colour) where
-    pub start-from : (k : ℕ) (x : Hold) {r : ℕ} → asHold x ≡ holdOf I P c k → r ≡ startOf (asHold x) → r ≡ startIn I P c k
-    start-from k x g e = rw g at e
-
-    pub peak-turn : (k : ℕ) {t r : ℕ} → t ≡ startIn I P c k → r ≡ held I P c t → maxBelow (k + 1) (heldAtStart I P c) ≡ max (maxBelow k (heldAtStart I P c)) r
-    peak-turn k {t} {r} g e = let z : r ≡ heldAtStart I P c k = rw g at e in omega (arith, max-next (heldAtStart I P c) k)
-
     pub over-turn : (last k : ℕ) {t r : ℕ} {y : Bool} → t ≡ startIn I P c k → y ≡ over I P t → r ≡ cond y t last
         → leastWhere (k + 1) last (overAtStart I P c) (startIn I P c) ≡ min (leastWhere k last (overAtStart I P c) (startIn I P c)) r
     over-turn last k g q e = least-turn last (overAtStart I P c) (startIn I P c) k e (rw g at q) g
 
     pub over-in-total : (last : ℕ) {n : ℕ} → n ≡ b .files → leastWhere n last (overAtStart I P c) (startIn I P c) ≡ firstOverIn I P c last
     over-in-total last e = rw (file-count b J, e)
-
-    module _ (placed : Placed b L) where
-      placed-at : {i j : ℕ} → j ≡ i → i < b .tasks → isPlaced (runAt P j) ≡ true
-      placed-at {i} e h = rw (e, run-at b L i h) (lt-ltb 0 (L .processor i) (placed i h))
-
-      file-in : {k : ℕ} → k < fileCount I → k < b .files
-      file-in l = omega (arith, file-count b J)
-
-      maker-placed : (k : ℕ) → k < fileCount I → isPlaced (makerRun I P k) ≡ true
-      maker-placed k l = placed-at (maker-at b J k (file-in l)) (f .job .maker k (file-in l))
-
-      reader-placed : (k : ℕ) → k < fileCount I → isPlaced (readerRun I P k) ≡ true
-      reader-placed k l = placed-at (reader-at b J k (file-in l)) (f .job .reader k (file-in l))
-
-      pub peak-total : {n : ℕ} → n ≡ b .files → maxBelow n (heldAtStart I P c) ≡ peak I P c
-      peak-total {n} e =
-          let z : maxBelow n (heldAtStart I P c) ≡ maxBelow (fileCount I) (heldAtStart I P c) = rw (file-count b J, e) in
-          z ∙ peak-starts I P c (none-held I P c maker-placed reader-placed)
-
-  -- ---- 17
 
   pub over-yes : (t : ℕ) {x : ℕ} → x ≡ held I P blue t → b .board .blue .limit < x → true ≡ over I P t
   over-yes t {x} e l = sym (over-by I P blue t (omega (arith, limit-of b J true)))

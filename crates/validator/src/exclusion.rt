@@ -59,7 +59,9 @@ pub fn first_overlapping<'a>(
     schedule: &'a [u64; layout::SCHEDULE],
 ) -> usize
     requires { ⌜ InBounds shape (now job) (now schedule) ⌝ }
-    ensures { λ r. ⌜ r ≡ firstBelow (taskCount (instanceOf shape (now (job .entry)))) (overlaps (instanceOf shape (now (job .entry))) (scheduleOf shape (now (schedule .entry)))) ⌝ }
+    ensures { λ r. ⌜ r ≡
+        firstBelow (taskCount (instanceOf shape (now (job .entry))))
+        (overlaps (instanceOf shape (now (job .entry))) (scheduleOf shape (now (schedule .entry)))) ⌝ }
 {
     let all = all_runs(shape, job, schedule);
     runs::lowest_overlap(all, shape.tasks)

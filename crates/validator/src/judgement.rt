@@ -1,17 +1,14 @@
 // The verdict on a complete schedule: refusals 15 to 18 in their order, or acceptance.
 ghost use mathlib.Core.Path.{_≡_};
-ghost use Prim.Native.Nat.{_≤_};
-ghost use Rattle.rules.specs.Validity.{trueClaim, sameClaim, refusedBy, acceptedWith, judgedClaim, judgedMemory, judgedTiming, judge as rules-judge};
+ghost use Rattle.rules.specs.Validity.{sameClaim, refusedBy, acceptedWith, judgedClaim, judgedMemory, judgedTiming, judge as rules-judge};
 ghost use Rattle.model.specs.Claims.{asClaim};
-ghost use Rattle.model.specs.Layout.{entriesOf, instanceOf, scheduleOf, InBounds, lastTick, mostHeld};
+ghost use Rattle.model.specs.Layout.{entriesOf, instanceOf, scheduleOf, InBounds, Placed};
 ghost use Rattle.validator.specs.Answer.{asVerdict};
-ghost use Rattle.validator.specs.Complete.{Placed};
 use super::exclusion::first_overlapping;
 use super::memory::first_over;
-use super::memory::peak;
 use super::memory::settled;
 use super::timing::first_early;
-use super::timing::makespan;
+use claims::true_claim;
 use model::claim::Claim;
 use model::layout;
 use model::layout::Shape;
@@ -59,24 +56,6 @@ impl Verdict {
     }
 }
 
-// What a schedule has to claim.
-pub fn true_claim<'a>(
-    shape: Shape,
-    job: &'a [u64; layout::JOB],
-    schedule: &'a [u64; layout::SCHEDULE],
-) -> Claim
-    requires { ⌜ InBounds shape (now job) (now schedule) ⌝ }
-    requires { ⌜ Placed shape (entriesOf (now schedule)) ⌝ }
-    ensures { λ r. ⌜ asClaim r ≡ trueClaim (instanceOf shape (now (job .entry))) (scheduleOf shape (now (schedule .entry))) ⌝ }
-    ensures { λ r. ⌜ (r .span ≤ lastTick) × (r .«blue_peak» ≤ mostHeld) × (r .«red_peak» ≤ mostHeld) ⌝ }
-{
-    Claim {
-        span: makespan(shape, job, schedule),
-        blue_peak: peak(shape, job, schedule, true),
-        red_peak: peak(shape, job, schedule, false),
-    }
-}
-
 fn same_claim(a: Claim, b: Claim) -> bool
     ensures { λ r. ⌜ r ≡ sameClaim (asClaim a) (asClaim b) ⌝ }
 {
@@ -98,7 +77,8 @@ fn judge_claim<'a>(
 ) -> Verdict
     requires { ⌜ InBounds shape (now job) (now schedule) ⌝ }
     requires { ⌜ Placed shape (entriesOf (now schedule)) ⌝ }
-    ensures { λ r. ⌜ asVerdict r ≡ judgedClaim (instanceOf shape (now (job .entry))) (scheduleOf shape (now (schedule .entry))) (asClaim claim) ⌝ }
+    ensures { λ r. ⌜ asVerdict r ≡
+        judgedClaim (instanceOf shape (now (job .entry))) (scheduleOf shape (now (schedule .entry))) (asClaim claim) ⌝ }
 {
     if same_claim(claim, true_claim(shape, job, schedule)) {
         return Verdict::accepted(claim);
@@ -115,7 +95,8 @@ fn judge_memory<'a>(
 ) -> Verdict
     requires { ⌜ InBounds shape (now job) (now schedule) ⌝ }
     requires { ⌜ Placed shape (entriesOf (now schedule)) ⌝ }
-    ensures { λ r. ⌜ asVerdict r ≡ judgedMemory (instanceOf shape (now (job .entry))) (scheduleOf shape (now (schedule .entry))) (asClaim claim) ⌝ }
+    ensures { λ r. ⌜ asVerdict r ≡
+        judgedMemory (instanceOf shape (now (job .entry))) (scheduleOf shape (now (schedule .entry))) (asClaim claim) ⌝ }
 {
     let last = settled(shape, job, schedule);
     let t = first_over(shape, job, schedule, last);
@@ -134,7 +115,8 @@ fn judge_timing<'a>(
 ) -> Verdict
     requires { ⌜ InBounds shape (now job) (now schedule) ⌝ }
     requires { ⌜ Placed shape (entriesOf (now schedule)) ⌝ }
-    ensures { λ r. ⌜ asVerdict r ≡ judgedTiming (instanceOf shape (now (job .entry))) (scheduleOf shape (now (schedule .entry))) (asClaim claim) ⌝ }
+    ensures { λ r. ⌜ asVerdict r ≡
+        judgedTiming (instanceOf shape (now (job .entry))) (scheduleOf shape (now (schedule .entry))) (asClaim claim) ⌝ }
 {
     let task = first_early(shape, job, schedule);
     if task < shape.tasks as u64 {
@@ -152,7 +134,8 @@ pub fn judge<'a>(
 ) -> Verdict
     requires { ⌜ InBounds shape (now job) (now schedule) ⌝ }
     requires { ⌜ Placed shape (entriesOf (now schedule)) ⌝ }
-    ensures { λ r. ⌜ asVerdict r ≡ rules-judge (instanceOf shape (now (job .entry))) (scheduleOf shape (now (schedule .entry))) (asClaim claim) ⌝ }
+    ensures { λ r. ⌜ asVerdict r ≡
+        rules-judge (instanceOf shape (now (job .entry))) (scheduleOf shape (now (schedule .entry))) (asClaim claim) ⌝ }
 {
     let task = first_overlapping(shape, job, schedule);
     if task < shape.tasks {

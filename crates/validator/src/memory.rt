@@ -1,72 +1,20 @@
-// The peaks of the memories and the first instant over a limit. A total rises only where a hold starts, so no other
-// instants are looked at.
+// The first instant over a limit. A total rises only where a hold starts, so no other instants are looked at.
 ghost use mathlib.Core.Path.{_≡_};
-ghost use Prim.Native.Nat.{_<_, _≤_, max};
+ghost use Prim.Native.Nat.{max};
 ghost use Rattle.rules.specs.Count.{firstBelow};
 ghost use Rattle.rules.specs.Model.{blue as rules-blue, red as rules-red};
 ghost use Rattle.rules.specs.Residency.{horizon};
-ghost use Rattle.rules.specs.Validity.{over, peak as rules-peak};
-ghost use Rattle.model.specs.Layout.{entriesOf, instanceOf, scheduleOf, colourBy, InBounds, mostHeld};
-ghost use Rattle.model.specs.Holds.{asHold};
-ghost use Rattle.validator.specs.Starts.{startOf, startIn, firstOverIn};
-ghost use Rattle.validator.specs.Complete.{Placed};
+ghost use Rattle.rules.specs.Validity.{over};
+ghost use Rattle.model.specs.Layout.{instanceOf, scheduleOf, colourBy, InBounds};
+ghost use Rattle.validator.specs.OverLimit.{firstOverIn};
+use claims::hold_start;
 use model::choice::greater;
 use model::choice::lesser;
 use model::choice::select;
 use model::layout;
 use model::layout::Shape;
-use model::residency::Hold;
 use model::residency::held_at;
-use model::residency::hold_of;
 use model::residency::horizon_of;
-
-// The tick at which the hold starts, 0 if there is none.
-fn start_of(h: Hold) -> u64
-    ensures { λ r. ⌜ r ≡ startOf (asHold h) ⌝ }
-{
-    match h {
-        Hold::Never => 0,
-        Hold::During(from, _) => from,
-        Hold::Since(from) => from,
-    }
-}
-
-// When the hold of file k in the memory of the colour starts.
-fn hold_start<'a>(
-    shape: Shape,
-    job: &'a [u64; layout::JOB],
-    schedule: &'a [u64; layout::SCHEDULE],
-    k: usize,
-    colour: bool,
-) -> u64
-    requires { ⌜ InBounds shape (now job) (now schedule) ⌝ }
-    requires { ⌜ k < shape .files ⌝ }
-    ensures { λ r. ⌜ r ≡ startIn (instanceOf shape (now (job .entry))) (scheduleOf shape (now (schedule .entry))) (colourBy colour) k ⌝ }
-{
-    start_of(hold_of(shape, job, schedule, k, colour))
-}
-
-// The greatest total held in the memory of the colour.
-pub fn peak<'a>(
-    shape: Shape,
-    job: &'a [u64; layout::JOB],
-    schedule: &'a [u64; layout::SCHEDULE],
-    colour: bool,
-) -> u64
-    requires { ⌜ InBounds shape (now job) (now schedule) ⌝ }
-    requires { ⌜ Placed shape (entriesOf (now schedule)) ⌝ }
-    ensures { λ r. ⌜ r ≡ rules-peak (instanceOf shape (now (job .entry))) (scheduleOf shape (now (schedule .entry))) (colourBy colour) ⌝ }
-    ensures { λ r. ⌜ r ≤ mostHeld ⌝ }
-{
-    let mut most: u64 = 0;
-    let mut i: usize = 0;
-    while i < shape.files {
-        let t = hold_start(shape, job, schedule, i, colour);
-        most = greater(most, held_at(shape, job, schedule, colour, t));
-        i += 1;
-    }
-    most
-}
 
 // Whether a memory is over its limit at tick t.
 fn over_at<'a>(
@@ -93,7 +41,8 @@ fn first_over_in<'a>(
     last: u64,
 ) -> u64
     requires { ⌜ InBounds shape (now job) (now schedule) ⌝ }
-    ensures { λ r. ⌜ r ≡ firstOverIn (instanceOf shape (now (job .entry))) (scheduleOf shape (now (schedule .entry))) (colourBy colour) last ⌝ }
+    ensures { λ r. ⌜ r ≡
+        firstOverIn (instanceOf shape (now (job .entry))) (scheduleOf shape (now (schedule .entry))) (colourBy colour) last ⌝ }
 {
     let mut first: u64 = last;
     let mut i: usize = 0;
@@ -128,7 +77,9 @@ pub fn settled<'a>(
     schedule: &'a [u64; layout::SCHEDULE],
 ) -> u64
     requires { ⌜ InBounds shape (now job) (now schedule) ⌝ }
-    ensures { λ r. ⌜ r ≡ max (horizon (instanceOf shape (now (job .entry))) (scheduleOf shape (now (schedule .entry))) rules-blue) (horizon (instanceOf shape (now (job .entry))) (scheduleOf shape (now (schedule .entry))) rules-red) ⌝ }
+    ensures { λ r. ⌜ r ≡
+        max (horizon (instanceOf shape (now (job .entry))) (scheduleOf shape (now (schedule .entry))) rules-blue)
+        (horizon (instanceOf shape (now (job .entry))) (scheduleOf shape (now (schedule .entry))) rules-red) ⌝ }
 {
     greater(
         horizon_of(shape, job, schedule, true),

@@ -1,31 +1,29 @@
-// When files are made, moved and read, and when the schedule ends.
+// Files that move before they are made, or are read before they arrive.
 ghost use mathlib.Core.Path.{_≡_};
-ghost use mathlib.Core.Bool.{cond, _||_};
-ghost use Prim.Native.Nat.{_<_, _≤_};
-ghost use lib.Dec.{ltb};
+ghost use Prim.Native.Nat.{_<_};
 ghost use Rattle.rules.specs.Count.{firstBelow};
 ghost use Rattle.rules.specs.Model.{taskCount};
-ghost use Rattle.rules.specs.Validity.{early, readsEarly, makespan as rules-makespan};
-ghost use Rattle.model.specs.Layout.{instanceOf, scheduleOf, InBounds, lastTick};
-use model::choice::greater;
+ghost use Rattle.rules.specs.Validity.{early, readsEarly};
+ghost use Rattle.model.specs.Layout.{instanceOf, scheduleOf, InBounds};
+ghost use Rattle.validator.specs.Early.{tooEarly};
 use model::choice::lesser;
 use model::choice::select;
 use model::layout;
 use model::layout::Shape;
-use model::residency::finish;
-use model::residency::same_colour;
+use model::residency::FileTimes;
+use model::residency::file_times;
 
-// Whether a file moves before it is made, or its reader starts before it arrived.
-fn too_early(moves: bool, made: u64, departs: u64, arrives: u64, starts: u64) -> bool
-    ensures { λ r. ⌜ r ≡ cond moves (ltb departs made || ltb starts arrives) (ltb starts made) ⌝ }
+// Whether a file with these times moves before it is made, or its reader starts before it arrived.
+fn too_early(times: FileTimes) -> bool
+    ensures { λ r. ⌜ r ≡ tooEarly times ⌝ }
 {
-    if moves {
-        if departs < made {
+    if times.moves {
+        if times.departs < times.made {
             return true;
         }
-        return starts < arrives;
+        return times.starts < times.arrives;
     }
-    starts < made
+    times.starts < times.made
 }
 
 // Whether file k is early.
@@ -39,19 +37,7 @@ fn early_file<'a>(
     requires { ⌜ k < shape .files ⌝ }
     ensures { λ r. ⌜ r ≡ early (instanceOf shape (now (job .entry))) (scheduleOf shape (now (schedule .entry))) k ⌝ }
 {
-    let m = layout::maker(job, k) as usize;
-    let d = layout::reader(job, k) as usize;
-    let from = layout::on_blue(shape, schedule, m);
-    let moves = !same_colour(from, layout::on_blue(shape, schedule, d));
-    let departs = layout::move_start(schedule, k);
-    let arrives = departs + layout::move_time(job, k);
-    too_early(
-        moves,
-        finish(shape, job, schedule, m),
-        departs,
-        arrives,
-        layout::start(schedule, d),
-    )
+    too_early(file_times(shape, job, schedule, k))
 }
 
 // The lowest task that reads an early file, or the number of tasks.
@@ -61,7 +47,9 @@ pub fn first_early<'a>(
     schedule: &'a [u64; layout::SCHEDULE],
 ) -> u64
     requires { ⌜ InBounds shape (now job) (now schedule) ⌝ }
-    ensures { λ r. ⌜ r ≡ firstBelow (taskCount (instanceOf shape (now (job .entry)))) (readsEarly (instanceOf shape (now (job .entry))) (scheduleOf shape (now (schedule .entry)))) ⌝ }
+    ensures { λ r. ⌜ r ≡
+        firstBelow (taskCount (instanceOf shape (now (job .entry))))
+        (readsEarly (instanceOf shape (now (job .entry))) (scheduleOf shape (now (schedule .entry)))) ⌝ }
 {
     let tasks = shape.tasks as u64;
     let mut first: u64 = tasks;
@@ -72,23 +60,4 @@ pub fn first_early<'a>(
         i += 1;
     }
     first
-}
-
-// The greatest finish: document 01's span.
-pub fn makespan<'a>(
-    shape: Shape,
-    job: &'a [u64; layout::JOB],
-    schedule: &'a [u64; layout::SCHEDULE],
-) -> u64
-    requires { ⌜ InBounds shape (now job) (now schedule) ⌝ }
-    ensures { λ r. ⌜ r ≡ rules-makespan (instanceOf shape (now (job .entry))) (scheduleOf shape (now (schedule .entry))) ⌝ }
-    ensures { λ r. ⌜ r ≤ lastTick ⌝ }
-{
-    let mut most: u64 = 0;
-    let mut i: usize = 0;
-    while i < shape.tasks {
-        most = greater(most, finish(shape, job, schedule, i));
-        i += 1;
-    }
-    most
 }

@@ -1,8 +1,8 @@
 -- `mark_paper` meets its contract: what is read is judged, what is not is refused.
 use Rattle.model.specs.Layout.{jobOf, entriesOf, instanceFrom, scheduleFrom}
 use Rattle.model.proofs.LayoutLaws.{job-bounds}
+use Rattle.model.proofs.SpelledLaws.{spelled-placed, spelled-bounds}
 use Rattle.schedule.proofs.ReadLaws.{read-spellable}
-use Rattle.validator.proofs.SpelledLaws.{spelled-placed, spelled-bounds}
 use Rattle.mark_text.proofs.PaperLaws.{paper-read, paper-judged, paper-refused}
 use borrow.Author.Needs.{needs}
 use Rattle.mark_text.proofs.mark_paper.Statement.{statement}

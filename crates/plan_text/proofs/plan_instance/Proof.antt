@@ -1,12 +1,11 @@
 -- `plan_instance` meets its contract: a stuck planner's answer, or what a complete schedule's writing answers.
-use mathlib.Core.Path.{refl, sym, ap, _∙_}
+use mathlib.Core.Path.{refl}
 use Rattle.rules.proofs.OutcomeLaws.{completed-spellable}
 use Rattle.model.specs.Layout.{jobOf, entriesOf, instanceFrom, scheduleFrom}
 use Rattle.model.proofs.LayoutLaws.{job-bounds}
-use Rattle.validator.proofs.SpelledLaws.{spelled-placed, spelled-bounds}
+use Rattle.model.proofs.SpelledLaws.{spelled-placed, spelled-bounds}
 use Rattle.planner.specs.Outcomes.{asPlanner}
-use Rattle.rules.specs.Calls.{planMade}
-use Rattle.plan_text.proofs.AnswerLaws.{made-stuck, made-complete}
+use Rattle.plan_text.proofs.AnswerLaws.{made-stuck, made-complete, made-written}
 use borrow.Author.Needs.{needs}
 use Rattle.plan_text.proofs.plan_instance.Statement.{statement}
 use Rattle.plan_text.proofs.plan_instance.Tie as tie
@@ -22,30 +21,35 @@ enum-known-trials c = search needs
 
 write-plan-requires : tie.Need-write-plan-requires
 write-plan-requires c κs =
-    let s = c .before .before .before .before .before .before .before .before in
+    let t = c .before .before .before in
+    let r = t .before .before in
+    let s = r .before .before .before in
     let b = s .args .shape in
     let J = jobOf (s .args .job .now) in
-    let L = entriesOf (c .before .before .before .before .before .run .last .1 .1 .1 .0) in
+    let L = entriesOf (r .run .last .1 .1 .1 .0) in
     let R = asPlanner (s .args .rule) in
-    let o = made-complete R (instanceFrom b J) (s .args .out .now) (scheduleFrom b L) (c .before .before .before .before .before .run .result) (c .before .before .before .before .before .run .ensures) (c .before .before .before .trials .given .1) in
+    let o = made-complete R (instanceFrom b J) (s .args .out .now) (scheduleFrom b L) (r .run .result) (r .run .ensures) (t .trials .given .1) in
     let p = completed-spellable R (instanceFrom b J) (s .pre) (scheduleFrom b L) _ o in
     (record { job = job-bounds b J (s .pre); schedule = spelled-bounds b J L _ p }, spelled-placed b J L _ p)
 
 returns : tie.Need-returns
 returns c =
-    let s = c .before .before .before .before .before .before in
+    let r = c .before .before .before in
+    let s = r .before .before .before in
     let I = instanceFrom (s .args .shape) (jobOf (s .args .job .now)) in
-    made-stuck (asPlanner (s .args .rule)) I (s .args .out .now) _ (c .before .before .before .run .result) (c .before .before .before .run .ensures) (c .before .placed .given .1)
+    made-stuck (asPlanner (s .args .rule)) I (s .args .out .now) _ (r .run .result) (r .run .ensures) (c .before .placed .given .1)
 
 same-length : tie.Need-same-length
 same-length c = search needs
 
 returns-2 : tie.Need-returns-2
 returns-2 c =
-    let s = c .before .before .before .before .before .before .before .before .before .before .before in
+    let t = c .before .before .before .before .before .before in
+    let r = t .before .before in
+    let s = r .before .before .before in
     let I = instanceFrom (s .args .shape) (jobOf (s .args .job .now)) in
-    let o = made-complete (asPlanner (s .args .rule)) I (s .args .out .now) _ (c .before .before .before .before .before .before .before .before .run .result) (c .before .before .before .before .before .before .before .before .run .ensures) (c .before .before .before .before .before .before .trials .given .1) in
-    c .before .before .write-plan .ensures ∙ sym (ap (planMade I (s .args .out .now)) o)
+    let w = c .before .before .write-plan .ensures in
+    made-written (asPlanner (s .args .rule)) I (s .args .out .now) _ (r .run .result) (r .run .ensures) (t .trials .given .1) w
 
 pub plan-instance-spec : {M : Type 1} → statement M
 plan-instance-spec =

@@ -20,11 +20,15 @@ same-colour-requires c κs = search needs
 
 returns : tie.Need-returns
 returns c =
-    let s = c .before .before .before .before .before in
-    crossing-yes (s .pre .0) (entriesOf (s .args .schedule .now)) (s .pre .1) (s .args .task) (s .args .colour) (c .before .before .before .before .reader .ensures) (c .before .before .before .if1 .taken) (c .before .before .maker .ensures) (c .before .on-blue .ensures) (c .same-colour .ensures)
+    let x = c .before .before .before in
+    let s = x .before .before in
+    crossing-yes (s .pre .0) (entriesOf (s .args .schedule .now)) (s .pre .1) (s .args .task) (s .args .colour) (x .before .reader .ensures)
+    (x .if1 .taken) (c .before .before .maker .ensures) (c .before .on-blue .ensures) (c .same-colour .ensures)
 
 returns-2 : tie.Need-returns-2
-returns-2 c = let s = c .before .before in crossing-no (s .pre .0) (entriesOf (s .args .schedule .now)) (s .pre .1) (s .args .task) (s .args .colour) (c .before .reader .ensures) (c .if1 .left)
+returns-2 c =
+    let s = c .before .before in
+    crossing-no (s .pre .0) (entriesOf (s .args .schedule .now)) (s .pre .1) (s .args .task) (s .args .colour) (c .before .reader .ensures) (c .if1 .left)
 
 pub crossing-file-spec : {M : Type 1} → statement M
 crossing-file-spec =

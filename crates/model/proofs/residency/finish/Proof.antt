@@ -26,7 +26,10 @@ returns c =
     let s = c .before .before .before in
     let i = s .args .i in
     let h = s .pre .1 in
-    (finish-at (s .pre .0) h (c .start .ensures) (c .before .before .on-blue .ensures) (c .before .run-time .ensures .0), omega (arith, s .pre .0 .schedule .start i h, s .pre .0 .job .onBlue i h, s .pre .0 .job .onRed i h, c .before .run-time .ensures .1))
+    let run = c .before .run-time .ensures in (
+      finish-at (s .pre .0) h (c .start .ensures) (c .before .before .on-blue .ensures) (run .0),
+      omega (arith, s .pre .0 .schedule .start i h, s .pre .0 .job .onBlue i h, s .pre .0 .job .onRed i h, run .1),
+    )
 
 pub finish-spec : {M : Type 1} → statement M
 finish-spec =

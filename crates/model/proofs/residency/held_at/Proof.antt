@@ -15,8 +15,9 @@ use Rattle.model.proofs.residency.held_at.Tie as tie
 
 abbrev Inv-loop : tie.InvT-loop
 Inv-loop shape job schedule colour t sum₀ i₀ sum i =
+    let I = instanceFrom shape (jobOf job) in
     (i ≤ shape .files) × (sum ≤ fileSizes .most * i)
-    × (sum ≡ sumWhere i (isHeld (instanceFrom shape (jobOf job)) (scheduleFrom shape (entriesOf schedule)) (colourBy colour) t) (sizeAt (instanceFrom shape (jobOf job))))
+    × (sum ≡ sumWhere i (isHeld I (scheduleFrom shape (entriesOf schedule)) (colourBy colour) t) (sizeAt I))
 
 abbrev μ-loop : tie.MeasureT-loop
 μ-loop shape job schedule colour t sum₀ i₀ sum i = shape .files - i
@@ -37,7 +38,10 @@ value-if-requires : tie.Need-value-if-requires Inv-loop μ-loop
 value-if-requires c κs = search needs
 
 add-sum : tie.Need-add-sum Inv-loop μ-loop
-add-sum c = let s = c .before .before .before .before .before .before .before in omega (arith, s .pre .job .size (c .before .before .before .before .before .before .loop .i) (c .before .before .before .before .if1 .taken))
+add-sum c =
+    let x = c .before .before .before in
+    let l = x .before .before .before in
+    omega (arith, l .before .pre .job .size (l .loop .i) (x .before .if1 .taken))
 
 add-i : tie.Need-add-i Inv-loop μ-loop
 add-i c = search needs
@@ -47,9 +51,18 @@ loop-less c = search needs
 
 loop-again : tie.Need-loop-again Inv-loop μ-loop
 loop-again c =
-    let s = c .before .before .before .before .before .before .before in
-    let h = c .before .before .before .before .if1 .taken in
-    omega (arith, s .pre .job .size (c .before .before .before .before .before .before .loop .i) h, held-turn (s .pre) (colourBy (s .args .colour)) h (s .args .t) (c .value-if .result) (c .before .size .result) (c .before .before .before .hold-of .result) (c .before .before .covers .result) (c .before .before .before .hold-of .ensures .0) (c .before .before .covers .ensures) (c .before .size .ensures) (c .value-if .ensures .0))
+    let z = c .before in
+    let y = z .before in
+    let x = y .before in
+    let l = x .before .before .before in
+    let s = l .before in
+    let h = x .before .if1 .taken in
+    omega (
+      arith,
+      s .pre .job .size (l .loop .i) h,
+      held-turn (s .pre) (colourBy (s .args .colour)) h (s .args .t) (c .value-if .result) (z .size .result) (x .hold-of .result) (y .covers .result)
+          (x .hold-of .ensures .0) (y .covers .ensures) (z .size .ensures) (c .value-if .ensures .0),
+    )
 
 returns : tie.Need-returns Inv-loop μ-loop
 returns c =

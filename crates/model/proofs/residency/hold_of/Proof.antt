@@ -1,7 +1,8 @@
--- `hold_of` meets its contract: what the accessors read is the rules' hold.
+-- `hold_of` meets its contract: the times of the file give the rules' hold.
 use mathlib.Core.Path.{_∙_}
 use native.Mathlib.Omega.{arith}
-use Rattle.model.proofs.LayoutLaws.{hold-from}
+use Rattle.model.specs.Layout.{jobOf, entriesOf, instanceFrom, scheduleFrom, colourBy}
+use Rattle.model.proofs.FileLaws.{maker-placed, maker-here, reader-placed, hold-from}
 use borrow.Author.Needs.{needs}
 use Rattle.model.proofs.residency.hold_of.Statement.{statement}
 use Rattle.model.proofs.residency.hold_of.Tie as tie
@@ -12,52 +13,48 @@ maker-requires c κs = search needs
 reader-requires : tie.Need-reader-requires
 reader-requires c κs = search needs
 
-on-blue-requires : tie.Need-on-blue-requires
-on-blue-requires c κs = let s = c .before .before in omega (arith, s .pre .0 .job .maker (s .args .k) (s .pre .1), s .pre .0 .job .tasks)
+processor-requires : tie.Need-processor-requires
+processor-requires c κs =
+    let s = c .before .before in
+    omega (arith, s .pre .0 .job .maker (s .args .k) (s .pre .1), s .pre .0 .job .tasks)
 
-on-blue-requires-2 : tie.Need-on-blue-requires-2
-on-blue-requires-2 c κs = let s = c .before .before .before in omega (arith, s .pre .0 .job .reader (s .args .k) (s .pre .1), s .pre .0 .job .tasks)
+processor-requires-2 : tie.Need-processor-requires-2
+processor-requires-2 c κs =
+    let s = c .before .before .before in
+    omega (arith, s .pre .0 .job .reader (s .args .k) (s .pre .1), s .pre .0 .job .tasks)
+
+on-blue-requires : tie.Need-on-blue-requires
+on-blue-requires c κs =
+    let s = c .before .before .before .before in
+    omega (arith, s .pre .0 .job .maker (s .args .k) (s .pre .1), s .pre .0 .job .tasks)
 
 same-colour-requires : tie.Need-same-colour-requires
 same-colour-requires c κs = search needs
 
-move-start-requires : tie.Need-move-start-requires
-move-start-requires c κs = search needs
-
-move-time-requires : tie.Need-move-time-requires
-move-time-requires c κs = search needs
-
-add-arrives : tie.Need-add-arrives
-add-arrives c = let s = c .before .before .before .before .before .before .before in omega (arith, s .pre .0 .job .moveTime (s .args .k) (s .pre .1), s .pre .0 .schedule .moveStart (s .args .k) (s .pre .1))
-
-processor-requires : tie.Need-processor-requires
-processor-requires c κs = let s = c .before .before .before .before .before .before .before in omega (arith, s .pre .0 .job .maker (s .args .k) (s .pre .1), s .pre .0 .job .tasks)
-
-processor-requires-2 : tie.Need-processor-requires-2
-processor-requires-2 c κs = let s = c .before .before .before .before .before .before .before .before in omega (arith, s .pre .0 .job .reader (s .args .k) (s .pre .1), s .pre .0 .job .tasks)
-
-same-colour-requires-2 : tie.Need-same-colour-requires-2
-same-colour-requires-2 c κs = search needs
-
-start-requires : tie.Need-start-requires
-start-requires c κs = let s = c .before .before .before .before .before .before .before .before .before .before in omega (arith, s .pre .0 .job .maker (s .args .k) (s .pre .1), s .pre .0 .job .tasks)
-
-finish-requires : tie.Need-finish-requires
-finish-requires c κs = let s = c .before .before .before .before .before .before .before .before .before .before .before in (s .pre .0, omega (arith, s .pre .0 .job .reader (s .args .k) (s .pre .1)))
+file-times-requires : tie.Need-file-times-requires
+file-times-requires c κs = search needs
 
 hold-when-requires : tie.Need-hold-when-requires
 hold-when-requires c κs = search needs
 
 returns : tie.Need-returns
 returns c =
-    let s = c .before .before .before .before .before .before .before .before .before .before .before .before .before in
-    let k = s .args .k in
-    let h = s .pre .1 in (
+    let x = c .before .before .before in
+    let p = x .before .before in
+    let d = p .before in
+    let m = d .before in
+    let s = m .before in
+    let I = instanceFrom (s .args .shape) (jobOf (s .args .job .now)) in
+    let L = entriesOf (s .args .schedule .now) in
+    let f = s .pre .0 .job in
+    let h = s .pre .1 in
+    let times = c .before .file-times .ensures in (
       c .hold-when .ensures .0
-          ∙ hold-from (s .pre .0) h (s .args .colour) (c .before .before .before .before .before .before .before .before .before .before .before .before .maker .ensures) (c .before .before .before .before .before .before .before .before .before .before .before .reader .ensures) (c .before .before .before .before .before .before .before .before .before .before .on-blue .ensures) (c .before .before .before .before .before .before .before .before .before .on-blue2 .ensures)
-          (c .before .before .before .before .before .before .before .before .same-colour .ensures) (c .before .before .before .same-colour2 .ensures) (c .before .before .before .before .before .processor .ensures) (c .before .before .before .before .processor2 .ensures) (c .before .before .start .ensures)
-          (c .before .before .before .before .before .before .before .move-start .ensures) (c .before .before .before .before .before .before .move-time .ensures) (c .before .finish .ensures .0),
-      omega (arith, s .pre .0 .job .moveTime k h, s .pre .0 .schedule .moveStart k h, s .pre .0 .schedule .start (c .before .before .before .before .before .before .before .before .before .before .before .before .maker .result) (omega (arith, s .pre .0 .job .maker k h, c .before .before .before .before .before .before .before .before .before .before .before .before .maker .ensures)), c .before .before .start .ensures, c .before .before .before .before .before .before .before .move-start .ensures, c .before .before .before .before .before .before .move-time .ensures),
+          ∙ hold-from I (scheduleFrom (s .args .shape) L) (colourBy (s .args .colour)) (times .0)
+          (maker-placed f L h (m .maker .ensures) (p .processor .ensures))
+          (reader-placed f L h (d .reader .ensures) (x .before .processor2 .ensures))
+          (maker-here f L h (m .maker .ensures) (s .args .colour) (x .on-blue .ensures) (c .before .before .same-colour .ensures)),
+      omega (arith, c .hold-when .ensures .1, times .1),
     )
 
 pub hold-of-spec : {M : Type 1} → statement M
@@ -66,16 +63,10 @@ hold-of-spec =
     (tie.spec
     maker-requires
     reader-requires
-    on-blue-requires
-    on-blue-requires-2
-    same-colour-requires
-    move-start-requires
-    move-time-requires
-    add-arrives
     processor-requires
     processor-requires-2
-    same-colour-requires-2
-    start-requires
-    finish-requires
+    on-blue-requires
+    same-colour-requires
+    file-times-requires
     hold-when-requires
     returns)

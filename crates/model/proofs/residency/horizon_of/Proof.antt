@@ -13,7 +13,8 @@ use Rattle.model.proofs.residency.horizon_of.Tie as tie
 
 abbrev Inv-loop : tie.InvT-loop
 Inv-loop shape job schedule colour most₀ i₀ most i =
-    (i ≤ shape .files) × (most ≤ lastTick) × (most ≡ maxBelow i (settlesAt (instanceFrom shape (jobOf job)) (scheduleFrom shape (entriesOf schedule)) (colourBy colour)))
+    (i ≤ shape .files) × (most ≤ lastTick)
+    × (most ≡ maxBelow i (settlesAt (instanceFrom shape (jobOf job)) (scheduleFrom shape (entriesOf schedule)) (colourBy colour)))
 
 abbrev μ-loop : tie.MeasureT-loop
 μ-loop shape job schedule colour most₀ i₀ most i = shape .files - i
@@ -38,9 +39,14 @@ loop-less c = search needs
 
 loop-again : tie.Need-loop-again Inv-loop μ-loop
 loop-again c =
-    let s = c .before .before .before .before .before .before in
-    let h = c .before .before .before .if1 .taken in
-    omega (arith, horizon-turn (s .pre) (colourBy (s .args .colour)) h (c .before .settles .result) (c .before .before .hold-of .result) (c .before .before .hold-of .ensures .0) (c .before .settles .ensures))
+    let z = c .before in
+    let x = z .before in
+    let s = x .before .before .before .before in
+    let h = x .before .if1 .taken in
+    omega (
+      arith,
+      horizon-turn (s .pre) (colourBy (s .args .colour)) h (z .settles .result) (x .hold-of .result) (x .hold-of .ensures .0) (z .settles .ensures),
+    )
 
 returns : tie.Need-returns Inv-loop μ-loop
 returns c =

@@ -1,9 +1,8 @@
 -- `schedule::reader::read_moves` meets its contract: what is left to be read is the whole answer.
 use Prim.Native.Nat.{_-_}
-use mathlib.Core.Path.{_∙_}
 use native.Mathlib.Omega.{arith}
 use borrow.Author.Needs.{needs}
-use Rattle.model.specs.Layout.{jobOf, entriesOf}
+use Rattle.model.specs.Layout.{jobOf}
 use Rattle.schedule.proofs.CrossingLaws.{moved-so-far}
 use Rattle.schedule.proofs.ReadLoops.{MovesRead, moves-start, moves-refused, moves-next, moves-skip, moves-end}
 use Rattle.schedule.proofs.reader.read_moves.Statement.{statement}
@@ -18,28 +17,23 @@ abbrev μ-loop : tie.MeasureT-loop
 loop-holds : tie.Need-loop-holds Inv-loop μ-loop
 loop-holds c = moves-start _ _ _ _ _ _ (c .before .pre .1 .0)
 
+moves-requires : tie.Need-moves-requires Inv-loop μ-loop
+moves-requires c κs = search needs
+
 maker-requires : tie.Need-maker-requires Inv-loop μ-loop
 maker-requires c κs = search needs
 
 reader-requires : tie.Need-reader-requires Inv-loop μ-loop
 reader-requires c κs = search needs
 
-crosses-requires : tie.Need-crosses-requires Inv-loop μ-loop
-crosses-requires c κs =
-    let m = c .before .before in
-    let l = m .before .before .before in
-    let f = l .before .before .pre .0 in
-    let h = m .before .if1 .taken in
-    omega (arith, f .tasks, f .maker (l .loop .i) h, f .reader (l .loop .i) h, m .maker .ensures, c .before .reader .ensures)
-
 move-at-requires : tie.Need-move-at-requires Inv-loop μ-loop
 move-at-requires c κs =
-    let m = c .before .before .before .before in
-    let l = m .before .before .before in
+    let x = c .before .before .before in
+    let l = x .before .before .before .before in
     let f = l .before .before .pre .0 in
-    let h = m .before .if1 .taken in (
+    let h = x .before .before .if1 .taken in (
       f .processors,
-      (l .loop .inv .within, omega (arith, f .tasks, f .maker (l .loop .i) h, f .reader (l .loop .i) h, m .maker .ensures, c .before .before .before .reader .ensures)),
+      (l .loop .inv .within, omega (arith, f .tasks, f .maker (l .loop .i) h, f .reader (l .loop .i) h, c .before .maker .ensures, c .reader .ensures)),
     )
 
 enum-known-fault : tie.Need-enum-known-fault Inv-loop μ-loop
@@ -47,23 +41,27 @@ enum-known-fault c = search needs
 
 returns : tie.Need-returns Inv-loop μ-loop
 returns c =
-    let x = c .before .before .before .before .before in
-    let m = x .before .before .before in
-    let l = m .before .before .before in
-    let s = l .before .before in
-    let h = m .before .if1 .taken in
-    let e = moved-so-far (s .pre .0) (entriesOf (l .loop .schedule)) h (m .maker .ensures) (x .before .before .reader .ensures) (x .crosses .ensures) (l .loop .i) in
     let o = c .before .before .before in
-    (moves-refused (l .loop .inv) h (e ∙ o .before .if2 .taken) (m .maker .ensures) (x .before .before .reader .ensures) _ (o .move-at .ensures _) _ (c .before .fault .given .1), tt)
+    let d = o .before in
+    let m = d .before in
+    let x = m .before .before in
+    let l = x .before .before .before .before in
+    let h = x .before .before .if1 .taken in
+    let e = moved-so-far (l .loop .inv) (x .moves .ensures) (m .before .if2 .taken) in
+    (moves-refused (l .loop .inv) h e (m .maker .ensures) (d .reader .ensures) _ (o .move-at .ensures _) _ (c .before .fault .given .1), tt)
 
 enum-known-start : tie.Need-enum-known-start Inv-loop μ-loop
 enum-known-start c = search needs
 
 add-store : tie.Need-add-store Inv-loop μ-loop
-add-store c = omega (arith, c .before .before .before .before .before .before .before .before .before .before .before .before .before .before .pre .0 .files)
+add-store c =
+    let x = c .before .before .before .before .before .before .before .before in
+    omega (arith, x .before .before .before .before .before .before .pre .0 .files)
 
 store-requires : tie.Need-store-requires Inv-loop μ-loop
-store-requires c κs = omega (arith, c .before .before .before .before .before .before .before .before .before .before .if1 .taken, c .before .before .before .before .before .before .before .before .before .before .before .before .before .before .pre .0 .files, c .store-arg .given .0 .1)
+store-requires c κs =
+    let x = c .before .before .before .before .before .before .before .before in
+    omega (arith, x .before .before .if1 .taken, x .before .before .before .before .before .before .pre .0 .files, c .store-arg .given .0 .1)
 
 add-k : tie.Need-add-k Inv-loop μ-loop
 add-k c =
@@ -78,20 +76,23 @@ loop-less c = search needs
 
 loop-again : tie.Need-loop-again Inv-loop μ-loop
 loop-again c =
-    let x = c .before .before .before .before .before .before .before in
-    let m = x .before .before .before in
-    let l = m .before .before .before in
-    let s = l .before .before in
-    let h = m .before .if1 .taken in
-    let e = moved-so-far (s .pre .0) (entriesOf (l .loop .schedule)) h (m .maker .ensures) (x .before .before .reader .ensures) (x .crosses .ensures) (l .loop .i) in
     let o = c .before .before .before .before .before in
-    moves-next (l .loop .inv) h (e ∙ o .before .if2 .taken) (m .maker .ensures) (x .before .before .reader .ensures) _ (o .move-at .ensures _) _ _ (c .before .before .before .start .given .1) (s .pre .0) (c .before .store-arg .given .0 .1) _ (c .store .ensures)
+    let d = o .before in
+    let m = d .before in
+    let x = m .before .before in
+    let l = x .before .before .before .before in
+    let h = x .before .before .if1 .taken in
+    let e = moved-so-far (l .loop .inv) (x .moves .ensures) (m .before .if2 .taken) in
+    moves-next (l .loop .inv) h e (m .maker .ensures) (d .reader .ensures) _ (o .move-at .ensures _) _ _ (c .before .before .before .start .given .1)
+    (l .before .before .pre .0) (c .before .store-arg .given .0 .1) _ (c .store .ensures)
 
 add-store-2 : tie.Need-add-store-2 Inv-loop μ-loop
-add-store-2 c = omega (arith, c .before .before .before .before .before .before .before .before .before .before .pre .0 .files)
+add-store-2 c = let x = c .before .before in omega (arith, x .before .before .before .before .before .before .pre .0 .files)
 
 store-requires-2 : tie.Need-store-requires-2 Inv-loop μ-loop
-store-requires-2 c κs = omega (arith, c .before .before .before .before .before .before .if1 .taken, c .before .before .before .before .before .before .before .before .before .before .pre .0 .files, c .store-arg2 .given .0 .1)
+store-requires-2 c κs =
+    let x = c .before .before in
+    omega (arith, x .before .before .if1 .taken, x .before .before .before .before .before .before .pre .0 .files, c .store-arg2 .given .0 .1)
 
 add-i-2 : tie.Need-add-i-2 Inv-loop μ-loop
 add-i-2 c = search needs
@@ -101,14 +102,12 @@ loop-less-2 c = search needs
 
 loop-again-2 : tie.Need-loop-again-2 Inv-loop μ-loop
 loop-again-2 c =
-    let x = c .before .before .before in
-    let m = x .before .before .before in
-    let l = m .before .before .before in
-    let s = l .before .before in
-    let h = m .before .if1 .taken in
-    let e = moved-so-far (s .pre .0) (entriesOf (l .loop .schedule)) h (m .maker .ensures) (x .before .before .reader .ensures) (x .crosses .ensures) (l .loop .i) in
     let a = c .before in
-    moves-skip (l .loop .inv) h (e ∙ a .before .if2 .left) (s .pre .0) (a .store-arg2 .given .0 .1) _ (c .store2 .ensures)
+    let x = a .before .before in
+    let l = x .before .before .before .before in
+    let h = x .before .before .if1 .taken in
+    let e = moved-so-far (l .loop .inv) (x .moves .ensures) (a .before .if2 .left) in
+    moves-skip (l .loop .inv) h e (l .before .before .pre .0) (a .store-arg2 .given .0 .1) _ (c .store2 .ensures)
 
 returns-2 : tie.Need-returns-2 Inv-loop μ-loop
 returns-2 c =
@@ -123,9 +122,9 @@ read-moves-spec =
     Inv-loop
     μ-loop
     loop-holds
+    moves-requires
     maker-requires
     reader-requires
-    crosses-requires
     move-at-requires
     enum-known-fault
     returns

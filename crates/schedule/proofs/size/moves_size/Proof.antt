@@ -1,13 +1,12 @@
 -- `schedule::size::moves_size` meets its contract: the lines of the files passed are counted.
 use Prim.Native.Nat.{_-_}
-use mathlib.Core.Path.{_∙_}
 use native.Mathlib.Omega.{arith}
 use borrow.Author.Needs.{needs}
 use denote.Ref.{now}
 use Rattle.rules.specs.ScheduleText.{moveLines}
 use Rattle.rules.proofs.ScheduleTextLaws.{moves-none}
 use Rattle.model.specs.Layout.{jobOf, entriesOf, instanceFrom, scheduleFrom}
-use Rattle.schedule.proofs.CrossingLaws.{moved-in}
+use Rattle.schedule.proofs.CrossingLaws.{moved-is}
 use Rattle.schedule.proofs.PieceLaws.{moves-grow, move-piece, no-piece}
 use Rattle.schedule.proofs.SizeLaws.{Counted, counted-none, counted-next, counted-skip, counted-all}
 use Rattle.schedule.proofs.size.moves_size.Statement.{statement}
@@ -22,31 +21,26 @@ abbrev μ-loop : tie.MeasureT-loop
 loop-holds : tie.Need-loop-holds Inv-loop μ-loop
 loop-holds c = counted-none _ _ (moves-none _ _)
 
+moves-requires : tie.Need-moves-requires Inv-loop μ-loop
+moves-requires c κs = search needs
+
 maker-requires : tie.Need-maker-requires Inv-loop μ-loop
 maker-requires c κs = search needs
 
 reader-requires : tie.Need-reader-requires Inv-loop μ-loop
 reader-requires c κs = search needs
 
-crosses-requires : tie.Need-crosses-requires Inv-loop μ-loop
-crosses-requires c κs =
-    let m = c .before in
-    let l = m .before .before .before in
-    let f = l .before .pre in
-    let h = m .before .if1 .taken in
-    omega (arith, f .tasks, f .maker (l .loop .k) h, f .reader (l .loop .k) h, m .maker .ensures, c .reader .ensures)
-
 add-move-size : tie.Need-add-move-size Inv-loop μ-loop
 add-move-size c =
-    let m = c .before .before .before in
-    let l = m .before .before .before in
-    omega (arith, l .before .pre .tasks, l .before .pre .maker (l .loop .k) (m .before .if1 .taken), m .maker .ensures)
+    let x = c .before .before .before in
+    let l = x .before .before .before in
+    omega (arith, l .before .pre .tasks, l .before .pre .maker (l .loop .k) (x .before .if1 .taken), c .before .maker .ensures)
 
 add-move-size-2 : tie.Need-add-move-size-2 Inv-loop μ-loop
 add-move-size-2 c =
-    let m = c .before .before .before in
-    let l = m .before .before .before in
-    omega (arith, l .before .pre .tasks, l .before .pre .reader (l .loop .k) (m .before .if1 .taken), c .before .before .reader .ensures)
+    let x = c .before .before .before in
+    let l = x .before .before .before in
+    omega (arith, l .before .pre .tasks, l .before .pre .reader (l .loop .k) (x .before .if1 .taken), c .reader .ensures)
 
 move-start-requires : tie.Need-move-start-requires Inv-loop μ-loop
 move-start-requires c κs = search needs
@@ -55,7 +49,9 @@ move-size-requires : tie.Need-move-size-requires Inv-loop μ-loop
 move-size-requires c κs = search needs
 
 add-n : tie.Need-add-n Inv-loop μ-loop
-add-n c = omega (arith, c .before .before .before .before .before .before .before .before .loop .inv .bound, c .before .before .before .before .before .before .before .before .loop .inv .passed, c .before .before .before .before .before .before .before .before .before .pre .files)
+add-n c =
+    let l = c .before .before .before .before .before .before .before .before in
+    omega (arith, l .loop .inv .bound, l .loop .inv .passed, l .before .pre .files)
 
 add-k : tie.Need-add-k Inv-loop μ-loop
 add-k c = search needs
@@ -65,15 +61,17 @@ loop-less c = search needs
 
 loop-again : tie.Need-loop-again Inv-loop μ-loop
 loop-again c =
-    let x = c .before .before .before in
-    let m = x .before .before in
-    let l = m .before .before .before in
+    let d = c .before .before in
+    let m = d .before in
+    let x = m .before .before in
+    let l = x .before .before .before in
     let s = l .before in
-    let h = m .before .if1 .taken in
+    let h = x .before .if1 .taken in
     let J = jobOf (now (s .args .job)) in
     let L = entriesOf (now (s .args .schedule)) in
-    let e = moved-in (s .pre) L h (m .maker .ensures) (x .before .reader .ensures) (x .crosses .ensures) in
-    counted-next _ _ (moves-grow _ _) (l .loop .inv) h _ (move-piece (s .args .shape) J L h _ _ _ (m .maker .ensures) (x .before .reader .ensures) (c .before .move-start .ensures) (e ∙ c .before .before .if2 .taken)) _ (c .move-size .ensures .0) (c .move-size .ensures .1)
+    let e = moved-is (instanceFrom (s .args .shape) J) (scheduleFrom (s .args .shape) L) (l .loop .k) (x .moves .ensures) (m .before .if2 .taken) in
+    let piece = move-piece (s .args .shape) J L h _ _ _ (m .maker .ensures) (d .reader .ensures) (c .before .move-start .ensures) e in
+    counted-next _ _ (moves-grow _ _) (l .loop .inv) h _ piece _ (c .move-size .ensures .0) (c .move-size .ensures .1)
 
 add-k-2 : tie.Need-add-k-2 Inv-loop μ-loop
 add-k-2 c = search needs
@@ -84,14 +82,13 @@ loop-less-2 c = search needs
 loop-again-2 : tie.Need-loop-again-2 Inv-loop μ-loop
 loop-again-2 c =
     let x = c .before in
-    let m = x .before .before in
-    let l = m .before .before .before in
+    let l = x .before .before .before in
     let s = l .before in
-    let h = m .before .if1 .taken in
+    let h = x .before .if1 .taken in
     let J = jobOf (now (s .args .job)) in
     let L = entriesOf (now (s .args .schedule)) in
-    let e = moved-in (s .pre) L h (m .maker .ensures) (x .before .reader .ensures) (x .crosses .ensures) in
-    counted-skip _ _ (moves-grow _ _) (l .loop .inv) h (no-piece (s .args .shape) J L h (e ∙ c .if2 .left))
+    let e = moved-is (instanceFrom (s .args .shape) J) (scheduleFrom (s .args .shape) L) (l .loop .k) (x .moves .ensures) (c .if2 .left) in
+    counted-skip _ _ (moves-grow _ _) (l .loop .inv) h (no-piece (s .args .shape) J L h e)
 
 returns : tie.Need-returns Inv-loop μ-loop
 returns c =
@@ -105,9 +102,9 @@ moves-size-spec =
     Inv-loop
     μ-loop
     loop-holds
+    moves-requires
     maker-requires
     reader-requires
-    crosses-requires
     add-move-size
     add-move-size-2
     move-start-requires

@@ -1,20 +1,20 @@
 -- `schedule::writer::write_moves` meets its contract: each line is written into the part from `at` on.
 use Prim.Native.Nat.{_-_}
-use mathlib.Core.Path.{_∙_}
 use native.Mathlib.Omega.{arith}
 use borrow.Author.Needs.{needs}
 use denote.Ref.{now}
 use Rattle.rules.specs.ScheduleText.{moveLines}
 use Rattle.rules.proofs.ScheduleTextLaws.{moves-none}
 use Rattle.model.specs.Layout.{jobOf, entriesOf, instanceFrom, scheduleFrom}
-use Rattle.schedule.proofs.CrossingLaws.{moved-in}
+use Rattle.schedule.proofs.CrossingLaws.{moved-is}
 use Rattle.schedule.proofs.PieceLaws.{moves-grow, move-piece, no-piece}
 use Rattle.schedule.proofs.LaidLaws.{Laid, laid-none, laid-within, laid-length, laid-room, laid-next, laid-skip, laid-all}
 use Rattle.schedule.proofs.writer.write_moves.Statement.{statement}
 use Rattle.schedule.proofs.writer.write_moves.Tie as tie
 
 abbrev Inv-loop : tie.InvT-loop
-Inv-loop shape job schedule out₀ at₀ k₀ out at k = Laid (moveLines (instanceFrom shape (jobOf job)) (scheduleFrom shape (entriesOf schedule))) (shape .files) out₀ out at k
+Inv-loop shape job schedule out₀ at₀ k₀ out at k =
+    Laid (moveLines (instanceFrom shape (jobOf job)) (scheduleFrom shape (entriesOf schedule))) (shape .files) out₀ out at k
 
 abbrev μ-loop : tie.MeasureT-loop
 μ-loop shape job schedule out₀ at₀ k₀ out at k = shape .files - k
@@ -22,19 +22,14 @@ abbrev μ-loop : tie.MeasureT-loop
 loop-holds : tie.Need-loop-holds Inv-loop μ-loop
 loop-holds c = laid-none _ _ _ (moves-none _ _) (c .before .pre .1)
 
+moves-requires : tie.Need-moves-requires Inv-loop μ-loop
+moves-requires c κs = search needs
+
 maker-requires : tie.Need-maker-requires Inv-loop μ-loop
 maker-requires c κs = search needs
 
 reader-requires : tie.Need-reader-requires Inv-loop μ-loop
 reader-requires c κs = search needs
-
-crosses-requires : tie.Need-crosses-requires Inv-loop μ-loop
-crosses-requires c κs =
-    let m = c .before in
-    let l = m .before .before .before in
-    let f = l .before .before .pre .0 in
-    let h = m .before .if1 .taken in
-    omega (arith, f .tasks, f .maker (l .loop .k) h, f .reader (l .loop .k) h, m .maker .ensures, c .reader .ensures)
 
 move-start-requires : tie.Need-move-start-requires Inv-loop μ-loop
 move-start-requires c κs = search needs
@@ -50,30 +45,34 @@ part-write-move-end c = search needs
 
 add-write-move : tie.Need-add-write-move Inv-loop μ-loop
 add-write-move c =
-    let m = c .before .before .before .before .before in
-    let l = m .before .before .before in
+    let m = c .before .before .before in
+    let x = m .before .before in
+    let l = x .before .before .before in
     let f = l .before .before .pre .0 in
-    omega (arith, f .tasks, f .maker (l .loop .k) (m .before .if1 .taken), m .maker .ensures)
+    omega (arith, f .tasks, f .maker (l .loop .k) (x .before .if1 .taken), m .maker .ensures)
 
 add-write-move-2 : tie.Need-add-write-move-2 Inv-loop μ-loop
 add-write-move-2 c =
-    let m = c .before .before .before .before .before in
-    let l = m .before .before .before in
+    let d = c .before .before in
+    let x = d .before .before .before in
+    let l = x .before .before .before in
     let f = l .before .before .pre .0 in
-    omega (arith, f .tasks, f .reader (l .loop .k) (m .before .if1 .taken), c .before .before .before .before .reader .ensures)
+    omega (arith, f .tasks, f .reader (l .loop .k) (x .before .if1 .taken), d .reader .ensures)
 
 write-move-requires : tie.Need-write-move-requires Inv-loop μ-loop
 write-move-requires c κs =
-    let x = c .before .before .before in
-    let m = x .before .before in
-    let l = m .before .before .before in
+    let t = c .before in
+    let d = t .before in
+    let m = d .before in
+    let x = m .before .before in
+    let l = x .before .before .before in
     let s = l .before .before in
-    let h = m .before .if1 .taken in
+    let h = x .before .if1 .taken in
     let J = jobOf (now (s .args .job)) in
     let L = entriesOf (now (s .args .schedule)) in
-    let e = moved-in (s .pre .0) L h (m .maker .ensures) (x .before .reader .ensures) (x .crosses .ensures) in
-    let t = c .before in
-    laid-room _ _ (moves-grow _ _) (l .loop .inv) h _ (move-piece (s .args .shape) J L h _ _ _ (m .maker .ensures) (x .before .reader .ensures) (t .move-start .ensures) (e ∙ t .before .if2 .taken))
+    let e = moved-is (instanceFrom (s .args .shape) J) (scheduleFrom (s .args .shape) L) (l .loop .k) (x .moves .ensures) (m .before .if2 .taken) in
+    let piece = move-piece (s .args .shape) J L h _ _ _ (m .maker .ensures) (d .reader .ensures) (t .move-start .ensures) e in
+    laid-room _ _ (moves-grow _ _) (l .loop .inv) h _ piece
 
 add-k : tie.Need-add-k Inv-loop μ-loop
 add-k c = search needs
@@ -83,17 +82,19 @@ loop-less c = search needs
 
 loop-again : tie.Need-loop-again Inv-loop μ-loop
 loop-again c =
-    let x = c .before .before .before .before .before .before in
-    let m = x .before .before in
-    let l = m .before .before .before in
-    let s = l .before .before in
-    let h = m .before .if1 .taken in
-    let J = jobOf (now (s .args .job)) in
-    let L = entriesOf (now (s .args .schedule)) in
-    let e = moved-in (s .pre .0) L h (m .maker .ensures) (x .before .reader .ensures) (x .crosses .ensures) in
     let w = c .before .before in
     let t = w .before .before in
-    laid-next _ _ (moves-grow _ _) (l .loop .inv) h _ (move-piece (s .args .shape) J L h _ _ _ (m .maker .ensures) (x .before .reader .ensures) (t .move-start .ensures) (e ∙ t .before .if2 .taken)) _ _ (w .write-move .ensures)
+    let d = t .before in
+    let m = d .before in
+    let x = m .before .before in
+    let l = x .before .before .before in
+    let s = l .before .before in
+    let h = x .before .if1 .taken in
+    let J = jobOf (now (s .args .job)) in
+    let L = entriesOf (now (s .args .schedule)) in
+    let e = moved-is (instanceFrom (s .args .shape) J) (scheduleFrom (s .args .shape) L) (l .loop .k) (x .moves .ensures) (m .before .if2 .taken) in
+    let piece = move-piece (s .args .shape) J L h _ _ _ (m .maker .ensures) (d .reader .ensures) (t .move-start .ensures) e in
+    laid-next _ _ (moves-grow _ _) (l .loop .inv) h _ piece _ _ (w .write-move .ensures)
 
 add-at : tie.Need-add-at Inv-loop μ-loop
 add-at c =
@@ -109,14 +110,13 @@ loop-less-2 c = search needs
 loop-again-2 : tie.Need-loop-again-2 Inv-loop μ-loop
 loop-again-2 c =
     let x = c .before in
-    let m = x .before .before in
-    let l = m .before .before .before in
+    let l = x .before .before .before in
     let s = l .before .before in
-    let h = m .before .if1 .taken in
+    let h = x .before .if1 .taken in
     let J = jobOf (now (s .args .job)) in
     let L = entriesOf (now (s .args .schedule)) in
-    let e = moved-in (s .pre .0) L h (m .maker .ensures) (x .before .reader .ensures) (x .crosses .ensures) in
-    laid-skip _ _ (moves-grow _ _) (l .loop .inv) h (no-piece (s .args .shape) J L h (e ∙ c .if2 .left))
+    let e = moved-is (instanceFrom (s .args .shape) J) (scheduleFrom (s .args .shape) L) (l .loop .k) (x .moves .ensures) (c .if2 .left) in
+    laid-skip _ _ (moves-grow _ _) (l .loop .inv) h (no-piece (s .args .shape) J L h e)
 
 same-length : tie.Need-same-length Inv-loop μ-loop
 same-length c = laid-length _ _ (moves-grow _ _) (c .before .before .loop .inv)
@@ -131,9 +131,9 @@ write-moves-spec =
     Inv-loop
     μ-loop
     loop-holds
+    moves-requires
     maker-requires
     reader-requires
-    crosses-requires
     move-start-requires
     sub-write-move
     part-write-move-start

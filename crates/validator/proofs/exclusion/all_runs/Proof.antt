@@ -1,5 +1,5 @@
 -- `all_runs` meets its contract. The invariant: the runs of the tasks passed are in the array.
-use Prim.Native.Nat.{_≤_, _-_}
+use Prim.Native.Nat.{_≤_, _<_, _-_}
 use mathlib.Core.Path.{_≡_}
 use native.Mathlib.Omega.{arith}
 use lib.ListN.{length}
@@ -39,7 +39,8 @@ loop-less c = search needs
 loop-again : tie.Need-loop-again Inv-loop μ-loop
 loop-again c = let s = c .before .before .before .before in
     let l = c .before .before .before .loop in
-    (omega arith, search needs, records-next (s .pre) (l .i) (l .all) (c .run-of .result) (omega (arith, s .pre .job .tasks, c .before .if1 .taken)) (c .run-of .ensures) (l .inv .2))
+    let within : l .i < length (l .all) = omega (arith, s .pre .job .tasks, c .before .if1 .taken) in
+    (omega arith, search needs, records-next (s .pre) (l .i) (l .all) (c .run-of .result) within (c .run-of .ensures) (l .inv .2))
 
 returns : tie.Need-returns Inv-loop μ-loop
 returns c = let s = c .before .before .before in

@@ -19,7 +19,8 @@ returns : tie.Need-returns
 returns c = let s = c .before .before .before .before in
     let I = instanceFrom (s .args .shape) (jobOf (s .args .job .now)) in
     let P = scheduleFrom (s .args .shape) (entriesOf (s .args .schedule .now)) in
-    judge-0 I P (asClaim (s .args .claim)) (c .before .before .before .true-claim .ensures .0) (c .before .before .same-claim .ensures) (c .accepted .ensures) (c .before .if1 .taken)
+    let own = c .before .before .before .true-claim .ensures .0 in
+    judge-0 I P (asClaim (s .args .claim)) own (c .before .before .same-claim .ensures) (c .accepted .ensures) (c .before .if1 .taken)
 
 refused-requires : tie.Need-refused-requires
 refused-requires c κs = search needs
@@ -28,7 +29,8 @@ returns-2 : tie.Need-returns-2
 returns-2 c = let s = c .before .before .before .before in
     let I = instanceFrom (s .args .shape) (jobOf (s .args .job .now)) in
     let P = scheduleFrom (s .args .shape) (entriesOf (s .args .schedule .now)) in
-    judge-18 I P (asClaim (s .args .claim)) (c .before .before .before .true-claim .ensures .0) (c .before .before .same-claim .ensures) (c .refused .ensures) (c .before .if1 .left)
+    let own = c .before .before .before .true-claim .ensures .0 in
+    judge-18 I P (asClaim (s .args .claim)) own (c .before .before .same-claim .ensures) (c .refused .ensures) (c .before .if1 .left)
 
 pub judge-claim-spec : {M : Type 1} → statement M
 judge-claim-spec =

@@ -19,7 +19,8 @@ returns : tie.Need-returns
 returns c = let s = c .before .before .before .before in
     let I = instanceFrom (s .args .shape) (jobOf (s .args .job .now)) in
     let P = scheduleFrom (s .args .shape) (entriesOf (s .args .schedule .now)) in
-    judge-17 I P (asClaim (s .args .claim)) (c .before .before .before .settled .ensures) (c .before .before .first-over .ensures) (c .refused .ensures) (c .before .if1 .taken)
+    let last = c .before .before .before .settled .ensures in
+    judge-17 I P (asClaim (s .args .claim)) last (c .before .before .first-over .ensures) (c .refused .ensures) (c .before .if1 .taken)
 
 judge-claim-requires : tie.Need-judge-claim-requires
 judge-claim-requires c κs = search needs
@@ -28,7 +29,8 @@ returns-2 : tie.Need-returns-2
 returns-2 c = let s = c .before .before .before .before in
     let I = instanceFrom (s .args .shape) (jobOf (s .args .job .now)) in
     let P = scheduleFrom (s .args .shape) (entriesOf (s .args .schedule .now)) in
-    memory-on I P (asClaim (s .args .claim)) (c .before .before .before .settled .ensures) (c .before .before .first-over .ensures) (c .judge-claim .ensures) (c .before .if1 .left)
+    let last = c .before .before .before .settled .ensures in
+    memory-on I P (asClaim (s .args .claim)) last (c .before .before .first-over .ensures) (c .judge-claim .ensures) (c .before .if1 .left)
 
 pub judge-memory-spec : {M : Type 1} → statement M
 judge-memory-spec =

@@ -20,7 +20,8 @@ returns : tie.Need-returns
 returns c = let s = c .before .before .before in
     let I = instanceFrom (s .args .shape) (jobOf (s .args .job .now)) in
     let P = scheduleFrom (s .args .shape) (entriesOf (s .args .schedule .now)) in
-    judge-16 I P (asClaim (s .args .claim)) (c .before .before .first-early .ensures) (task-count (s .args .shape) (jobOf (s .args .job .now))) (c .refused .ensures) (c .before .if1 .taken)
+    let n = task-count (s .args .shape) (jobOf (s .args .job .now)) in
+    judge-16 I P (asClaim (s .args .claim)) (c .before .before .first-early .ensures) n (c .refused .ensures) (c .before .if1 .taken)
 
 judge-memory-requires : tie.Need-judge-memory-requires
 judge-memory-requires c κs = search needs
@@ -29,7 +30,8 @@ returns-2 : tie.Need-returns-2
 returns-2 c = let s = c .before .before .before in
     let I = instanceFrom (s .args .shape) (jobOf (s .args .job .now)) in
     let P = scheduleFrom (s .args .shape) (entriesOf (s .args .schedule .now)) in
-    timing-on I P (asClaim (s .args .claim)) (c .before .before .first-early .ensures) (task-count (s .args .shape) (jobOf (s .args .job .now))) (c .judge-memory .ensures) (c .before .if1 .left)
+    let n = task-count (s .args .shape) (jobOf (s .args .job .now)) in
+    timing-on I P (asClaim (s .args .claim)) (c .before .before .first-early .ensures) n (c .judge-memory .ensures) (c .before .if1 .left)
 
 pub judge-timing-spec : {M : Type 1} → statement M
 judge-timing-spec =

@@ -3,8 +3,9 @@ use Prim.Native.Nat.{_≤_, _-_}
 use mathlib.Core.Path.{_≡_, sym, _∙_}
 use native.Mathlib.Omega.{arith}
 use Rattle.model.specs.Layout.{jobOf, entriesOf, instanceFrom, scheduleFrom, colourBy}
+use Rattle.claims.specs.Starts.{startIn}
 use Rattle.validator.specs.Least.{leastWhere}
-use Rattle.validator.specs.Starts.{startIn, overAtStart}
+use Rattle.validator.specs.OverLimit.{overAtStart}
 use Rattle.validator.proofs.LeastLaws.{least-none}
 use Rattle.validator.proofs.Loops.{over-turn, over-in-total}
 use borrow.Author.Needs.{needs}
@@ -13,7 +14,9 @@ use Rattle.validator.proofs.memory.first_over_in.Tie as tie
 
 abbrev Inv-loop : tie.InvT-loop
 Inv-loop shape job schedule colour last first₀ i₀ first i =
-    (i ≤ shape .files) × (first ≡ leastWhere i last (overAtStart (instanceFrom shape (jobOf job)) (scheduleFrom shape (entriesOf schedule)) (colourBy colour)) (startIn (instanceFrom shape (jobOf job)) (scheduleFrom shape (entriesOf schedule)) (colourBy colour)))
+    let I = instanceFrom shape (jobOf job) in
+    let P = scheduleFrom shape (entriesOf schedule) in
+    (i ≤ shape .files) × (first ≡ leastWhere i last (overAtStart I P (colourBy colour)) (startIn I P (colourBy colour)))
 
 abbrev μ-loop : tie.MeasureT-loop
 μ-loop shape job schedule colour last first₀ i₀ first i = shape .files - i
@@ -40,8 +43,13 @@ loop-less : tie.Need-loop-less Inv-loop μ-loop
 loop-less c = search needs
 
 loop-again : tie.Need-loop-again Inv-loop μ-loop
-loop-again c = let s = c .before .before .before .before .before .before .before in
-    omega (arith, over-turn (s .pre) (colourBy (s .args .colour)) (s .args .last) (c .before .before .before .before .before .before .loop .i) (c .before .before .before .hold-start .ensures) (c .before .before .over-at .ensures) (c .before .select .ensures .0))
+loop-again c =
+    let o = c .before .before in
+    let t = o .before in
+    let l = t .before .before .before in
+    let s = l .before in
+    let e = c .before .select .ensures .0 in
+    omega (arith, over-turn (s .pre) (colourBy (s .args .colour)) (s .args .last) (l .loop .i) (t .hold-start .ensures) (o .over-at .ensures) e)
 
 returns : tie.Need-returns Inv-loop μ-loop
 returns c =

@@ -14,7 +14,8 @@ use Rattle.validator.proofs.timing.first_early.Tie as tie
 
 abbrev Inv-loop : tie.InvT-loop
 Inv-loop shape job schedule tasks first₀ i₀ first i =
-    (i ≤ shape .files) × (first ≡ leastWhere i (shape .tasks) (early (instanceFrom shape (jobOf job)) (scheduleFrom shape (entriesOf schedule))) (readerOf (instanceFrom shape (jobOf job))))
+    let I = instanceFrom shape (jobOf job) in
+    (i ≤ shape .files) × (first ≡ leastWhere i (shape .tasks) (early I (scheduleFrom shape (entriesOf schedule))) (readerOf I))
 
 abbrev μ-loop : tie.MeasureT-loop
 μ-loop shape job schedule tasks first₀ i₀ first i = shape .files - i
@@ -41,8 +42,12 @@ loop-less : tie.Need-loop-less Inv-loop μ-loop
 loop-less c = search needs
 
 loop-again : tie.Need-loop-again Inv-loop μ-loop
-loop-again c = let s = c .before .before .before .before .before .before .before in
-    omega (arith, early-turn (s .pre) (c .before .before .before .before .if1 .taken) (s .args .shape .tasks) (c .before .before .before .early-file .ensures) (c .before .before .reader .ensures) (c .before .select .ensures .0))
+loop-again c =
+    let d = c .before .before in
+    let x = d .before in
+    let s = x .before .before .before .before in
+    let h = x .before .if1 .taken in
+    omega (arith, early-turn (s .pre) h (s .args .shape .tasks) (x .early-file .ensures) (d .reader .ensures) (c .before .select .ensures .0))
 
 returns : tie.Need-returns Inv-loop μ-loop
 returns c = let s = c .before .before .before in

@@ -4,13 +4,13 @@ use Rattle.validator.proofs.timing.too_early.Statement.{statement}
 use Rattle.validator.proofs.timing.too_early.Tie as tie
 
 returns : tie.Need-returns
-returns c = simp (c .before .if1 .taken, lt-ltb _ _ (c .if2 .taken))
+returns c = simp (c .before .before .if1 .taken, lt-ltb _ _ (c .if2 .taken))
 
 returns-2 : tie.Need-returns-2
-returns-2 c = simp (c .before .if1 .taken, le-ltb _ _ (c .if2 .left))
+returns-2 c = simp (c .before .before .before .if1 .taken, le-ltb _ _ (c .before .if2 .left))
 
 returns-3 : tie.Need-returns-3
-returns-3 c = simp (c .if1 .left)
+returns-3 c = simp (c .before .if1 .left)
 
 pub too-early-spec : {M : Type 1} → statement M
 too-early-spec = tie.close (tie.spec returns returns-2 returns-3)

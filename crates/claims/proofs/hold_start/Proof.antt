@@ -1,9 +1,9 @@
 -- `hold_start` meets its contract.
 use Rattle.model.specs.Layout.{colourBy}
-use Rattle.validator.proofs.Loops.{start-from}
+use Rattle.claims.proofs.ClaimLoops.{start-from}
 use borrow.Author.Needs.{needs}
-use Rattle.validator.proofs.memory.hold_start.Statement.{statement}
-use Rattle.validator.proofs.memory.hold_start.Tie as tie
+use Rattle.claims.proofs.hold_start.Statement.{statement}
+use Rattle.claims.proofs.hold_start.Tie as tie
 
 hold-of-requires : tie.Need-hold-of-requires
 hold-of-requires c κs = search needs

@@ -3,10 +3,9 @@ use mathlib.Core.Path.{ap}
 use native.Mathlib.Omega.{arith}
 use Rattle.rules.specs.Validity.{Claim}
 use Rattle.rules.specs.Promises.{Spellable}
 use Rattle.model.specs.declared.layout.Shape.{Shape}
-use Rattle.model.specs.Layout.{Job, Entries, instanceFrom, scheduleFrom, ScheduleBounds}
+use Rattle.model.specs.Layout.{Job, Entries, instanceFrom, scheduleFrom, ScheduleBounds, Placed}
 use Rattle.model.proofs.LayoutLaws.{file-count, task-count, run-at, move-at}
-use Rattle.validator.specs.Complete.{Placed}
 
 module _ (b : Shape) (J : Job) (L : Entries) (claim : Claim) (spelled : Spellable (instanceFrom b J) (scheduleFrom b L) claim) where
   pub spelled-placed : Placed b L

@@ -5,15 +5,16 @@ use native.Mathlib.Omega.{arith}
 use Rattle.rules.specs.Count.{maxBelow}
 use Rattle.model.specs.Layout.{jobOf, entriesOf, instanceFrom, scheduleFrom, colourBy, mostHeld}
 use Rattle.model.proofs.StepLaws.{max-none}
-use Rattle.validator.specs.Starts.{heldAtStart}
-use Rattle.validator.proofs.Loops.{peak-turn, peak-total}
+use Rattle.claims.specs.Starts.{heldAtStart}
+use Rattle.claims.proofs.ClaimLoops.{peak-turn, peak-total}
 use borrow.Author.Needs.{needs}
-use Rattle.validator.proofs.memory.peak.Statement.{statement}
-use Rattle.validator.proofs.memory.peak.Tie as tie
+use Rattle.claims.proofs.peak.Statement.{statement}
+use Rattle.claims.proofs.peak.Tie as tie
 
 abbrev Inv-loop : tie.InvT-loop
 Inv-loop shape job schedule colour most₀ i₀ most i =
-    (i ≤ shape .files) × (most ≤ mostHeld) × (most ≡ maxBelow i (heldAtStart (instanceFrom shape (jobOf job)) (scheduleFrom shape (entriesOf schedule)) (colourBy colour)))
+    (i ≤ shape .files) × (most ≤ mostHeld)
+    × (most ≡ maxBelow i (heldAtStart (instanceFrom shape (jobOf job)) (scheduleFrom shape (entriesOf schedule)) (colourBy colour)))
 
 abbrev μ-loop : tie.MeasureT-loop
 μ-loop shape job schedule colour most₀ i₀ most i = shape .files - i
@@ -37,8 +38,10 @@ loop-less : tie.Need-loop-less Inv-loop μ-loop
 loop-less c = search needs
 
 loop-again : tie.Need-loop-again Inv-loop μ-loop
-loop-again c = let s = c .before .before .before .before .before .before in
-    omega (arith, peak-turn (s .pre .0) (colourBy (s .args .colour)) (c .before .before .before .before .before .loop .i) (c .before .before .hold-start .ensures) (c .before .held-at .ensures .0))
+loop-again c =
+    let l = c .before .before .before .before .before in
+    let s = l .before in
+    omega (arith, peak-turn (s .pre .0) (colourBy (s .args .colour)) (l .loop .i) (c .before .before .hold-start .ensures) (c .before .held-at .ensures .0))
 
 returns : tie.Need-returns Inv-loop μ-loop
 returns c = let s = c .before .before .before in

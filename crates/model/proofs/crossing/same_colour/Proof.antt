@@ -1,7 +1,7 @@
--- `same` meets its contract, by the first colour.
+-- `same_colour` meets its contract, by the first colour.
 use Rattle.model.proofs.HoldCases.{same-true, same-false}
-use Rattle.model.proofs.residency.same_colour.Statement.{statement}
-use Rattle.model.proofs.residency.same_colour.Tie as tie
+use Rattle.model.proofs.crossing.same_colour.Statement.{statement}
+use Rattle.model.proofs.crossing.same_colour.Tie as tie
 
 returns : tie.Need-returns
 returns c = same-true _ _ (c .if1 .taken)

@@ -6,10 +6,10 @@ use Rattle.rules.specs.Count.{maxBelow}
 use Rattle.rules.specs.Model.{finishAt}
 use Rattle.model.specs.Layout.{jobOf, entriesOf, instanceFrom, scheduleFrom, lastTick}
 use Rattle.model.proofs.StepLaws.{max-none, max-next}
-use Rattle.validator.proofs.Loops.{span-total}
+use Rattle.claims.proofs.ClaimLoops.{span-total}
 use borrow.Author.Needs.{needs}
-use Rattle.validator.proofs.timing.makespan.Statement.{statement}
-use Rattle.validator.proofs.timing.makespan.Tie as tie
+use Rattle.claims.proofs.makespan.Statement.{statement}
+use Rattle.claims.proofs.makespan.Tie as tie
 
 abbrev Inv-loop : tie.InvT-loop
 Inv-loop shape job schedule most₀ i₀ most i =
@@ -34,9 +34,12 @@ loop-less : tie.Need-loop-less Inv-loop μ-loop
 loop-less c = search needs
 
 loop-again : tie.Need-loop-again Inv-loop μ-loop
-loop-again c = let s = c .before .before .before .before .before in
-    let i = c .before .before .before .before .loop .i in
-    omega (arith, max-next (finishAt (instanceFrom (s .args .shape) (jobOf (s .args .job .now))) (scheduleFrom (s .args .shape) (entriesOf (s .args .schedule .now)))) i, c .before .finish .ensures .0)
+loop-again c =
+    let l = c .before .before .before .before in
+    let s = l .before in
+    let I = instanceFrom (s .args .shape) (jobOf (s .args .job .now)) in
+    let P = scheduleFrom (s .args .shape) (entriesOf (s .args .schedule .now)) in
+    omega (arith, max-next (finishAt I P) (l .loop .i), c .before .finish .ensures .0)
 
 returns : tie.Need-returns Inv-loop μ-loop
 returns c = let s = c .before .before .before in

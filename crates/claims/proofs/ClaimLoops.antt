@@ -1,0 +1,67 @@
+-- One turn of each loop over the files, what the loops come to after all turns, and the claim made of that.
+use Prim.Native.Nat.{ℕ, _+_, _<_, max}
+use mathlib.Core.Bool.{true}
+use mathlib.Core.Path.{_≡_, _∙_}
+use native.Mathlib.Omega.{arith}
+use borrow.Author.Tests.{lt-ltb}
+use Rattle.rules.specs.Count.{maxBelow}
+use Rattle.rules.specs.Model.{Colour, blue, red, Instance, Schedule, fileCount, finishAt, isPlaced, runAt, makerRun, readerRun}
+use Rattle.rules.specs.Residency.{holdOf, held}
+use Rattle.rules.specs.Validity.{Claim, makespan, peak, trueClaim}
+use Rattle.rules.proofs.CompleteLaws.{none-held}
+use Rattle.model.specs.declared.layout.Shape.{Shape}
+use Rattle.model.specs.declared.residency.Hold.{Hold}
+use Rattle.model.specs.Layout.{Job, Entries, Bounds, instanceFrom, scheduleFrom, Placed}
+use Rattle.model.specs.Holds.{asHold}
+use Rattle.model.proofs.LayoutLaws.{file-count, task-count, maker-at, reader-at, run-at}
+use Rattle.model.proofs.StepLaws.{max-next}
+use Rattle.claims.specs.Starts.{startOf, startIn, heldAtStart}
+use Rattle.claims.proofs.RiseLaws.{peak-starts}
+
+module _ {b : Shape} {J : Job} {L : Entries} (f : Bounds b J L) where
+  abbrev I : Instance
+  I = instanceFrom b J
+
+  abbrev P : Schedule
+  P = scheduleFrom b L
+
+  -- ---- makespan
+
+  pub span-total : {n : ℕ} → n ≡ b .tasks → maxBelow n (finishAt I P) ≡ makespan I P
+  unfolding makespan
+  span-total e = rw (task-count b J, e)
+
+  -- ---- the peaks
+
+  module _ (c : Colour) where
+    pub start-from : (k : ℕ) (x : Hold) {r : ℕ} → asHold x ≡ holdOf I P c k → r ≡ startOf (asHold x) → r ≡ startIn I P c k
+    start-from k x g e = rw g at e
+
+    pub peak-turn : (k : ℕ) {t r : ℕ} → t ≡ startIn I P c k → r ≡ held I P c t
+        → maxBelow (k + 1) (heldAtStart I P c) ≡ max (maxBelow k (heldAtStart I P c)) r
+    peak-turn k {t} {r} g e = let z : r ≡ heldAtStart I P c k = rw g at e in omega (arith, max-next (heldAtStart I P c) k)
+
+    module _ (placed : Placed b L) where
+      placed-at : {i j : ℕ} → j ≡ i → i < b .tasks → isPlaced (runAt P j) ≡ true
+      placed-at {i} e h = rw (e, run-at b L i h) (lt-ltb 0 (L .processor i) (placed i h))
+
+      file-in : {k : ℕ} → k < fileCount I → k < b .files
+      file-in l = omega (arith, file-count b J)
+
+      maker-placed : (k : ℕ) → k < fileCount I → isPlaced (makerRun I P k) ≡ true
+      maker-placed k l = placed-at (maker-at b J k (file-in l)) (f .job .maker k (file-in l))
+
+      reader-placed : (k : ℕ) → k < fileCount I → isPlaced (readerRun I P k) ≡ true
+      reader-placed k l = placed-at (reader-at b J k (file-in l)) (f .job .reader k (file-in l))
+
+      pub peak-total : {n : ℕ} → n ≡ b .files → maxBelow n (heldAtStart I P c) ≡ peak I P c
+      peak-total {n} e =
+          let z : maxBelow n (heldAtStart I P c) ≡ maxBelow (fileCount I) (heldAtStart I P c) = rw (file-count b J, e) in
+          z ∙ peak-starts I P c (none-held I P c maker-placed reader-placed)
+
+-- ---- the true claim
+
+pub claim-from : (I : Instance) (P : Schedule) {s b r : ℕ} → s ≡ makespan I P → b ≡ peak I P blue → r ≡ peak I P red
+    → _≡_ {A = Claim} (record { span = s; bluePeak = b; redPeak = r }) (trueClaim I P)
+unfolding trueClaim
+claim-from I P x y z = λ k. record { span = x k; bluePeak = y k; redPeak = z k }

@@ -1,0 +1,106 @@
+// What a complete schedule has to claim: its makespan and its peaks. A total rises only where a hold starts, so a peak is
+// looked for at no other instants.
+ghost use mathlib.Core.Path.{_≡_};
+ghost use Prim.Native.Nat.{_<_, _≤_};
+ghost use Rattle.rules.specs.Validity.{makespan as rules-makespan, peak as rules-peak, trueClaim};
+ghost use Rattle.model.specs.Claims.{asClaim};
+ghost use Rattle.model.specs.Holds.{asHold};
+ghost use Rattle.model.specs.Layout.{entriesOf, instanceOf, scheduleOf, colourBy, InBounds, lastTick, mostHeld, Placed};
+ghost use Rattle.claims.specs.Starts.{startOf, startIn};
+use model::choice::greater;
+use model::claim::Claim;
+use model::layout;
+use model::layout::Shape;
+use model::residency::Hold;
+use model::residency::finish;
+use model::residency::held_at;
+use model::residency::hold_of;
+
+// The greatest finish: document 01's span.
+pub fn makespan<'a>(
+    shape: Shape,
+    job: &'a [u64; layout::JOB],
+    schedule: &'a [u64; layout::SCHEDULE],
+) -> u64
+    requires { ⌜ InBounds shape (now job) (now schedule) ⌝ }
+    ensures { λ r. ⌜ r ≡
+        rules-makespan (instanceOf shape (now (job .entry))) (scheduleOf shape (now (schedule .entry))) ⌝ }
+    ensures { λ r. ⌜ r ≤ lastTick ⌝ }
+{
+    let mut most: u64 = 0;
+    let mut i: usize = 0;
+    while i < shape.tasks {
+        most = greater(most, finish(shape, job, schedule, i));
+        i += 1;
+    }
+    most
+}
+
+// The tick at which the hold starts, 0 if there is none.
+fn start_of(h: Hold) -> u64
+    ensures { λ r. ⌜ r ≡ startOf (asHold h) ⌝ }
+{
+    match h {
+        Hold::Never => 0,
+        Hold::During(from, _) => from,
+        Hold::Since(from) => from,
+    }
+}
+
+// When the hold of file k in the memory of the colour starts.
+pub fn hold_start<'a>(
+    shape: Shape,
+    job: &'a [u64; layout::JOB],
+    schedule: &'a [u64; layout::SCHEDULE],
+    k: usize,
+    colour: bool,
+) -> u64
+    requires { ⌜ InBounds shape (now job) (now schedule) ⌝ }
+    requires { ⌜ k < shape .files ⌝ }
+    ensures { λ r. ⌜ r ≡
+        startIn (instanceOf shape (now (job .entry))) (scheduleOf shape (now (schedule .entry))) (colourBy colour) k ⌝ }
+{
+    start_of(hold_of(shape, job, schedule, k, colour))
+}
+
+// The greatest total held in the memory of the colour.
+pub fn peak<'a>(
+    shape: Shape,
+    job: &'a [u64; layout::JOB],
+    schedule: &'a [u64; layout::SCHEDULE],
+    colour: bool,
+) -> u64
+    requires { ⌜ InBounds shape (now job) (now schedule) ⌝ }
+    requires { ⌜ Placed shape (entriesOf (now schedule)) ⌝ }
+    ensures { λ r. ⌜ r ≡
+        rules-peak (instanceOf shape (now (job .entry))) (scheduleOf shape (now (schedule .entry))) (colourBy colour) ⌝ }
+    ensures { λ r. ⌜ r ≤ mostHeld ⌝ }
+{
+    let mut most: u64 = 0;
+    let mut i: usize = 0;
+    while i < shape.files {
+        let t = hold_start(shape, job, schedule, i, colour);
+        most = greater(most, held_at(shape, job, schedule, colour, t));
+        i += 1;
+    }
+    most
+}
+
+// What a schedule has to claim.
+pub fn true_claim<'a>(
+    shape: Shape,
+    job: &'a [u64; layout::JOB],
+    schedule: &'a [u64; layout::SCHEDULE],
+) -> Claim
+    requires { ⌜ InBounds shape (now job) (now schedule) ⌝ }
+    requires { ⌜ Placed shape (entriesOf (now schedule)) ⌝ }
+    ensures { λ r. ⌜ asClaim r ≡
+        trueClaim (instanceOf shape (now (job .entry))) (scheduleOf shape (now (schedule .entry))) ⌝ }
+    ensures { λ r. ⌜ (r .span ≤ lastTick) × (r .«blue_peak» ≤ mostHeld) × (r .«red_peak» ≤ mostHeld) ⌝ }
+{
+    Claim {
+        span: makespan(shape, job, schedule),
+        blue_peak: peak(shape, job, schedule, true),
+        red_peak: peak(shape, job, schedule, false),
+    }
+}
