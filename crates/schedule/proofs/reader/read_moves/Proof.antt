@@ -59,11 +59,10 @@ returns c =
 enum-known-start : tie.Need-enum-known-start Inv-loop μ-loop
 enum-known-start c = search needs
 
-add-store : tie.Need-add-store Inv-loop μ-loop
-add-store c = omega (arith, c .before .before .before .before .before .before .before .before .before .before .before .before .before .before .pre .0 .files)
-
-store-requires : tie.Need-store-requires Inv-loop μ-loop
-store-requires c κs = omega (arith, c .before .before .before .before .before .before .before .before .before .before .if1 .taken, c .before .before .before .before .before .before .before .before .before .before .before .before .before .before .pre .0 .files, c .store-arg .given .0 .1)
+set-move-start-requires : tie.Need-set-move-start-requires Inv-loop μ-loop
+set-move-start-requires c κs =
+    let x = c .before .before .before .before .before .before .before .before .before .before in
+    omega (arith, x .if1 .taken, x .before .before .before .before .pre .0 .files)
 
 add-k : tie.Need-add-k Inv-loop μ-loop
 add-k c =
@@ -85,13 +84,12 @@ loop-again c =
     let h = m .before .if1 .taken in
     let e = moved-so-far (s .pre .0) (entriesOf (l .loop .schedule)) h (m .maker .ensures) (x .before .before .reader .ensures) (x .crosses .ensures) (l .loop .i) in
     let o = c .before .before .before .before .before in
-    moves-next (l .loop .inv) h (e ∙ o .before .if2 .taken) (m .maker .ensures) (x .before .before .reader .ensures) _ (o .move-at .ensures _) _ _ (c .before .before .before .start .given .1) (s .pre .0) (c .before .store-arg .given .0 .1) _ (c .store .ensures)
+    moves-next (l .loop .inv) h (e ∙ o .before .if2 .taken) (m .maker .ensures) (x .before .before .reader .ensures) _ (o .move-at .ensures _) _ _ (c .before .before .before .start .given .1) (s .pre .0) (c .set-move-start .ensures .1 .0) _ (c .set-move-start .ensures .0)
 
-add-store-2 : tie.Need-add-store-2 Inv-loop μ-loop
-add-store-2 c = omega (arith, c .before .before .before .before .before .before .before .before .before .before .pre .0 .files)
-
-store-requires-2 : tie.Need-store-requires-2 Inv-loop μ-loop
-store-requires-2 c κs = omega (arith, c .before .before .before .before .before .before .if1 .taken, c .before .before .before .before .before .before .before .before .before .before .pre .0 .files, c .store-arg2 .given .0 .1)
+set-move-start-requires-2 : tie.Need-set-move-start-requires-2 Inv-loop μ-loop
+set-move-start-requires-2 c κs =
+    let x = c .before .before .before .before .before .before in
+    omega (arith, x .if1 .taken, x .before .before .before .before .pre .0 .files)
 
 add-i-2 : tie.Need-add-i-2 Inv-loop μ-loop
 add-i-2 c = search needs
@@ -107,8 +105,7 @@ loop-again-2 c =
     let s = l .before .before in
     let h = m .before .if1 .taken in
     let e = moved-so-far (s .pre .0) (entriesOf (l .loop .schedule)) h (m .maker .ensures) (x .before .before .reader .ensures) (x .crosses .ensures) (l .loop .i) in
-    let a = c .before in
-    moves-skip (l .loop .inv) h (e ∙ a .before .if2 .left) (s .pre .0) (a .store-arg2 .given .0 .1) _ (c .store2 .ensures)
+    moves-skip (l .loop .inv) h (e ∙ c .before .before .if2 .left) (s .pre .0) (c .set-move-start2 .ensures .1 .0) _ (c .set-move-start2 .ensures .0)
 
 returns-2 : tie.Need-returns-2 Inv-loop μ-loop
 returns-2 c =
@@ -130,14 +127,12 @@ read-moves-spec =
     enum-known-fault
     returns
     enum-known-start
-    add-store
-    store-requires
+    set-move-start-requires
     add-k
     add-i
     loop-less
     loop-again
-    add-store-2
-    store-requires-2
+    set-move-start-requires-2
     add-i-2
     loop-less-2
     loop-again-2

@@ -8,7 +8,7 @@ use Rattle.rules.specs.ScheduleText.{moveLines}
 use Rattle.rules.proofs.ScheduleTextLaws.{moves-none}
 use Rattle.model.specs.Layout.{jobOf, entriesOf, instanceFrom, scheduleFrom}
 use Rattle.schedule.proofs.CrossingLaws.{moved-in}
-use Rattle.schedule.proofs.PieceLaws.{moves-grow, move-piece, no-piece}
+use Rattle.schedule.proofs.TextLaws.{moves-grow, move-piece, no-piece}
 use Rattle.schedule.proofs.SizeLaws.{Counted, counted-none, counted-next, counted-skip, counted-all}
 use Rattle.schedule.proofs.size.moves_size.Statement.{statement}
 use Rattle.schedule.proofs.size.moves_size.Tie as tie
