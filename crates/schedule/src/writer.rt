@@ -54,8 +54,8 @@ fn write_runs(shape: Shape, schedule: &[u64; layout::SCHEDULE], out: &mut [u8]) 
     while i < shape.tasks {
         let processor = layout::processor(schedule, i);
         let start = layout::start(schedule, i);
-        let n = write_run(&mut out[at..], (i + 1) as u64, processor, start);
-        at += n;
+        let written = write_run(&mut out[at..], (i + 1) as u64, processor, start);
+        at += written;
         i += 1;
     }
     at
