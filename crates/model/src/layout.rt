@@ -4,7 +4,7 @@ ghost use mathlib.Core.Bool.{cond};
 ghost use Prim.Native.Nat.{_<_, _≤_, max};
 ghost use lib.Dec.{leb};
 ghost use Rattle.rules.specs.Limits.{maxTasks, maxFiles};
-ghost use Rattle.model.specs.Layout.{jobOf, entriesOf, withTaskAt, withFileAt, withRunAt, withMoveAt, jobLength, scheduleLength};
+ghost use Rattle.model.specs.Layout.{JobInBounds, jobOf, entriesOf, withTaskAt, withFileAt, withRunAt, withMoveAt, jobLength, scheduleLength};
 ghost use lib.ListN.{length, set};
 use super::choice::select;
 use rules::Board;
@@ -60,6 +60,26 @@ pub fn reader(job: &[u64; JOB], k: usize) -> u64
     ensures { λ r. ⌜ r ≡ jobOf (now (job .entry)) .reader k ⌝ }
 {
     job[READER + k]
+}
+
+// The task that makes file k of an instance in its bounds: it exists.
+pub fn making_task(shape: Shape, job: &[u64; JOB], k: usize) -> u64
+    requires { ⌜ JobInBounds shape (now job) ⌝ }
+    requires { ⌜ k < shape .files ⌝ }
+    ensures { λ r. ⌜ r ≡ jobOf (now (job .entry)) .maker k ⌝ }
+    ensures { λ r. ⌜ r < shape .tasks ⌝ }
+{
+    maker(job, k)
+}
+
+// The task that reads file k, likewise.
+pub fn reading_task(shape: Shape, job: &[u64; JOB], k: usize) -> u64
+    requires { ⌜ JobInBounds shape (now job) ⌝ }
+    requires { ⌜ k < shape .files ⌝ }
+    ensures { λ r. ⌜ r ≡ jobOf (now (job .entry)) .reader k ⌝ }
+    ensures { λ r. ⌜ r < shape .tasks ⌝ }
+{
+    reader(job, k)
 }
 
 pub fn size(job: &[u64; JOB], k: usize) -> u64

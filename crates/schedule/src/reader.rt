@@ -135,8 +135,8 @@ fn read_moves<'a>(
     let mut k = line;
     let mut i: usize = 0;
     while i < shape.files {
-        let maker = layout::maker(job, i);
-        let reader = layout::reader(job, i);
+        let maker = layout::making_task(shape, job, i);
+        let reader = layout::reading_task(shape, job, i);
         if crosses(shape, schedule, maker as usize, reader as usize) {
             match move_at(shape, paper, at, maker, reader) {
                 MoveRead::Refused(fault) => return Progress::Refused(fault, k),

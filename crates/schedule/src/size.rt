@@ -76,8 +76,8 @@ fn moves_size<'a>(
     let mut n: usize = 0;
     let mut k: usize = 0;
     while k < shape.files {
-        let maker = layout::maker(job, k);
-        let reader = layout::reader(job, k);
+        let maker = layout::making_task(shape, job, k);
+        let reader = layout::reading_task(shape, job, k);
         if crosses(shape, schedule, maker as usize, reader as usize) {
             n += move_size(maker + 1, reader + 1, layout::move_start(schedule, k));
             k += 1;

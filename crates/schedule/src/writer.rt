@@ -75,8 +75,8 @@ fn write_moves<'a>(
     let mut at: usize = 0;
     let mut k: usize = 0;
     while k < shape.files {
-        let maker = layout::maker(job, k);
-        let reader = layout::reader(job, k);
+        let maker = layout::making_task(shape, job, k);
+        let reader = layout::reading_task(shape, job, k);
         if crosses(shape, schedule, maker as usize, reader as usize) {
             let start = layout::move_start(schedule, k);
             let n = write_move(&mut out[at..], maker + 1, reader + 1, start);

@@ -18,29 +18,19 @@ abbrev μ-loop : tie.MeasureT-loop
 loop-holds : tie.Need-loop-holds Inv-loop μ-loop
 loop-holds c = moves-start _ _ _ _ _ _ (c .before .pre .1 .0)
 
-maker-requires : tie.Need-maker-requires Inv-loop μ-loop
-maker-requires c κs = search needs
+making-task-requires : tie.Need-making-task-requires Inv-loop μ-loop
+making-task-requires c κs = search needs
 
-reader-requires : tie.Need-reader-requires Inv-loop μ-loop
-reader-requires c κs = search needs
+reading-task-requires : tie.Need-reading-task-requires Inv-loop μ-loop
+reading-task-requires c κs = search needs
 
 crosses-requires : tie.Need-crosses-requires Inv-loop μ-loop
-crosses-requires c κs =
-    let m = c .before .before in
-    let l = m .before .before .before in
-    let f = l .before .before .pre .0 in
-    let h = m .before .if1 .taken in
-    omega (arith, f .tasks, f .maker (l .loop .i) h, f .reader (l .loop .i) h, m .maker .ensures, c .before .reader .ensures)
+crosses-requires c κs = search needs
 
 move-at-requires : tie.Need-move-at-requires Inv-loop μ-loop
 move-at-requires c κs =
-    let m = c .before .before .before .before in
-    let l = m .before .before .before in
-    let f = l .before .before .pre .0 in
-    let h = m .before .if1 .taken in (
-      f .processors,
-      (l .loop .inv .within, omega (arith, f .tasks, f .maker (l .loop .i) h, f .reader (l .loop .i) h, m .maker .ensures, c .before .before .before .reader .ensures)),
-    )
+    let l = c .before .before .before .before .before .before .before in
+    (l .before .before .pre .0 .processors, (l .loop .inv .within, search needs))
 
 enum-known-fault : tie.Need-enum-known-fault Inv-loop μ-loop
 enum-known-fault c = search needs
@@ -52,9 +42,9 @@ returns c =
     let l = m .before .before .before in
     let s = l .before .before in
     let h = m .before .if1 .taken in
-    let e = moved-so-far (s .pre .0) (entriesOf (l .loop .schedule)) h (m .maker .ensures) (x .before .before .reader .ensures) (x .crosses .ensures) (l .loop .i) in
+    let e = moved-so-far (s .pre .0) (entriesOf (l .loop .schedule)) h (m .making-task .ensures .0) (x .before .before .reading-task .ensures .0) (x .crosses .ensures) (l .loop .i) in
     let o = c .before .before .before in
-    (moves-refused (l .loop .inv) h (e ∙ o .before .if2 .taken) (m .maker .ensures) (x .before .before .reader .ensures) _ (o .move-at .ensures _) _ (c .before .fault .given .1), tt)
+    (moves-refused (l .loop .inv) h (e ∙ o .before .if2 .taken) (m .making-task .ensures .0) (x .before .before .reading-task .ensures .0) _ (o .move-at .ensures _) _ (c .before .fault .given .1), tt)
 
 enum-known-start : tie.Need-enum-known-start Inv-loop μ-loop
 enum-known-start c = search needs
@@ -82,9 +72,9 @@ loop-again c =
     let l = m .before .before .before in
     let s = l .before .before in
     let h = m .before .if1 .taken in
-    let e = moved-so-far (s .pre .0) (entriesOf (l .loop .schedule)) h (m .maker .ensures) (x .before .before .reader .ensures) (x .crosses .ensures) (l .loop .i) in
+    let e = moved-so-far (s .pre .0) (entriesOf (l .loop .schedule)) h (m .making-task .ensures .0) (x .before .before .reading-task .ensures .0) (x .crosses .ensures) (l .loop .i) in
     let o = c .before .before .before .before .before in
-    moves-next (l .loop .inv) h (e ∙ o .before .if2 .taken) (m .maker .ensures) (x .before .before .reader .ensures) _ (o .move-at .ensures _) _ _ (c .before .before .before .start .given .1) (s .pre .0) (c .set-move-start .ensures .1 .0) _ (c .set-move-start .ensures .0)
+    moves-next (l .loop .inv) h (e ∙ o .before .if2 .taken) (m .making-task .ensures .0) (x .before .before .reading-task .ensures .0) _ (o .move-at .ensures _) _ _ (c .before .before .before .start .given .1) (s .pre .0) (c .set-move-start .ensures .1 .0) _ (c .set-move-start .ensures .0)
 
 set-move-start-requires-2 : tie.Need-set-move-start-requires-2 Inv-loop μ-loop
 set-move-start-requires-2 c κs =
@@ -104,7 +94,7 @@ loop-again-2 c =
     let l = m .before .before .before in
     let s = l .before .before in
     let h = m .before .if1 .taken in
-    let e = moved-so-far (s .pre .0) (entriesOf (l .loop .schedule)) h (m .maker .ensures) (x .before .before .reader .ensures) (x .crosses .ensures) (l .loop .i) in
+    let e = moved-so-far (s .pre .0) (entriesOf (l .loop .schedule)) h (m .making-task .ensures .0) (x .before .before .reading-task .ensures .0) (x .crosses .ensures) (l .loop .i) in
     moves-skip (l .loop .inv) h (e ∙ c .before .before .if2 .left) (s .pre .0) (c .set-move-start2 .ensures .1 .0) _ (c .set-move-start2 .ensures .0)
 
 returns-2 : tie.Need-returns-2 Inv-loop μ-loop
@@ -120,8 +110,8 @@ read-moves-spec =
     Inv-loop
     μ-loop
     loop-holds
-    maker-requires
-    reader-requires
+    making-task-requires
+    reading-task-requires
     crosses-requires
     move-at-requires
     enum-known-fault

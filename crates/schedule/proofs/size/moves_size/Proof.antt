@@ -22,31 +22,20 @@ abbrev μ-loop : tie.MeasureT-loop
 loop-holds : tie.Need-loop-holds Inv-loop μ-loop
 loop-holds c = counted-none _ _ (moves-none _ _)
 
-maker-requires : tie.Need-maker-requires Inv-loop μ-loop
-maker-requires c κs = search needs
+making-task-requires : tie.Need-making-task-requires Inv-loop μ-loop
+making-task-requires c κs = search needs
 
-reader-requires : tie.Need-reader-requires Inv-loop μ-loop
-reader-requires c κs = search needs
+reading-task-requires : tie.Need-reading-task-requires Inv-loop μ-loop
+reading-task-requires c κs = search needs
 
 crosses-requires : tie.Need-crosses-requires Inv-loop μ-loop
-crosses-requires c κs =
-    let m = c .before in
-    let l = m .before .before .before in
-    let f = l .before .pre in
-    let h = m .before .if1 .taken in
-    omega (arith, f .tasks, f .maker (l .loop .k) h, f .reader (l .loop .k) h, m .maker .ensures, c .reader .ensures)
+crosses-requires c κs = search needs
 
 add-move-size : tie.Need-add-move-size Inv-loop μ-loop
-add-move-size c =
-    let m = c .before .before .before in
-    let l = m .before .before .before in
-    omega (arith, l .before .pre .tasks, l .before .pre .maker (l .loop .k) (m .before .if1 .taken), m .maker .ensures)
+add-move-size c = search needs
 
 add-move-size-2 : tie.Need-add-move-size-2 Inv-loop μ-loop
-add-move-size-2 c =
-    let m = c .before .before .before in
-    let l = m .before .before .before in
-    omega (arith, l .before .pre .tasks, l .before .pre .reader (l .loop .k) (m .before .if1 .taken), c .before .before .reader .ensures)
+add-move-size-2 c = search needs
 
 move-start-requires : tie.Need-move-start-requires Inv-loop μ-loop
 move-start-requires c κs = search needs
@@ -72,8 +61,8 @@ loop-again c =
     let h = m .before .if1 .taken in
     let J = jobOf (now (s .args .job)) in
     let L = entriesOf (now (s .args .schedule)) in
-    let e = moved-in (s .pre) L h (m .maker .ensures) (x .before .reader .ensures) (x .crosses .ensures) in
-    counted-next _ _ (moves-grow _ _) (l .loop .inv) h _ (move-piece (s .args .shape) J L h _ _ _ (m .maker .ensures) (x .before .reader .ensures) (c .before .move-start .ensures) (e ∙ c .before .before .if2 .taken)) _ (c .move-size .ensures .0) (c .move-size .ensures .1)
+    let e = moved-in (s .pre) L h (m .making-task .ensures .0) (x .before .reading-task .ensures .0) (x .crosses .ensures) in
+    counted-next _ _ (moves-grow _ _) (l .loop .inv) h _ (move-piece (s .args .shape) J L h _ _ _ (m .making-task .ensures .0) (x .before .reading-task .ensures .0) (c .before .move-start .ensures) (e ∙ c .before .before .if2 .taken)) _ (c .move-size .ensures .0) (c .move-size .ensures .1)
 
 add-k-2 : tie.Need-add-k-2 Inv-loop μ-loop
 add-k-2 c = search needs
@@ -90,7 +79,7 @@ loop-again-2 c =
     let h = m .before .if1 .taken in
     let J = jobOf (now (s .args .job)) in
     let L = entriesOf (now (s .args .schedule)) in
-    let e = moved-in (s .pre) L h (m .maker .ensures) (x .before .reader .ensures) (x .crosses .ensures) in
+    let e = moved-in (s .pre) L h (m .making-task .ensures .0) (x .before .reading-task .ensures .0) (x .crosses .ensures) in
     counted-skip _ _ (moves-grow _ _) (l .loop .inv) h (no-piece (s .args .shape) J L h (e ∙ c .if2 .left))
 
 returns : tie.Need-returns Inv-loop μ-loop
@@ -105,8 +94,8 @@ moves-size-spec =
     Inv-loop
     μ-loop
     loop-holds
-    maker-requires
-    reader-requires
+    making-task-requires
+    reading-task-requires
     crosses-requires
     add-move-size
     add-move-size-2

@@ -22,19 +22,14 @@ abbrev μ-loop : tie.MeasureT-loop
 loop-holds : tie.Need-loop-holds Inv-loop μ-loop
 loop-holds c = laid-none _ _ _ (moves-none _ _) (c .before .pre .1)
 
-maker-requires : tie.Need-maker-requires Inv-loop μ-loop
-maker-requires c κs = search needs
+making-task-requires : tie.Need-making-task-requires Inv-loop μ-loop
+making-task-requires c κs = search needs
 
-reader-requires : tie.Need-reader-requires Inv-loop μ-loop
-reader-requires c κs = search needs
+reading-task-requires : tie.Need-reading-task-requires Inv-loop μ-loop
+reading-task-requires c κs = search needs
 
 crosses-requires : tie.Need-crosses-requires Inv-loop μ-loop
-crosses-requires c κs =
-    let m = c .before in
-    let l = m .before .before .before in
-    let f = l .before .before .pre .0 in
-    let h = m .before .if1 .taken in
-    omega (arith, f .tasks, f .maker (l .loop .k) h, f .reader (l .loop .k) h, m .maker .ensures, c .reader .ensures)
+crosses-requires c κs = search needs
 
 move-start-requires : tie.Need-move-start-requires Inv-loop μ-loop
 move-start-requires c κs = search needs
@@ -49,18 +44,10 @@ part-write-move-end : tie.Need-part-write-move-end Inv-loop μ-loop
 part-write-move-end c = search needs
 
 add-write-move : tie.Need-add-write-move Inv-loop μ-loop
-add-write-move c =
-    let m = c .before .before .before .before .before in
-    let l = m .before .before .before in
-    let f = l .before .before .pre .0 in
-    omega (arith, f .tasks, f .maker (l .loop .k) (m .before .if1 .taken), m .maker .ensures)
+add-write-move c = search needs
 
 add-write-move-2 : tie.Need-add-write-move-2 Inv-loop μ-loop
-add-write-move-2 c =
-    let m = c .before .before .before .before .before in
-    let l = m .before .before .before in
-    let f = l .before .before .pre .0 in
-    omega (arith, f .tasks, f .reader (l .loop .k) (m .before .if1 .taken), c .before .before .before .before .reader .ensures)
+add-write-move-2 c = search needs
 
 write-move-requires : tie.Need-write-move-requires Inv-loop μ-loop
 write-move-requires c κs =
@@ -71,9 +58,9 @@ write-move-requires c κs =
     let h = m .before .if1 .taken in
     let J = jobOf (now (s .args .job)) in
     let L = entriesOf (now (s .args .schedule)) in
-    let e = moved-in (s .pre .0) L h (m .maker .ensures) (x .before .reader .ensures) (x .crosses .ensures) in
+    let e = moved-in (s .pre .0) L h (m .making-task .ensures .0) (x .before .reading-task .ensures .0) (x .crosses .ensures) in
     let t = c .before in
-    laid-room _ _ (moves-grow _ _) (l .loop .inv) h _ (move-piece (s .args .shape) J L h _ _ _ (m .maker .ensures) (x .before .reader .ensures) (t .move-start .ensures) (e ∙ t .before .if2 .taken))
+    laid-room _ _ (moves-grow _ _) (l .loop .inv) h _ (move-piece (s .args .shape) J L h _ _ _ (m .making-task .ensures .0) (x .before .reading-task .ensures .0) (t .move-start .ensures) (e ∙ t .before .if2 .taken))
 
 add-k : tie.Need-add-k Inv-loop μ-loop
 add-k c = search needs
@@ -90,10 +77,10 @@ loop-again c =
     let h = m .before .if1 .taken in
     let J = jobOf (now (s .args .job)) in
     let L = entriesOf (now (s .args .schedule)) in
-    let e = moved-in (s .pre .0) L h (m .maker .ensures) (x .before .reader .ensures) (x .crosses .ensures) in
+    let e = moved-in (s .pre .0) L h (m .making-task .ensures .0) (x .before .reading-task .ensures .0) (x .crosses .ensures) in
     let w = c .before .before in
     let t = w .before .before in
-    laid-next _ _ (moves-grow _ _) (l .loop .inv) h _ (move-piece (s .args .shape) J L h _ _ _ (m .maker .ensures) (x .before .reader .ensures) (t .move-start .ensures) (e ∙ t .before .if2 .taken)) _ _ (w .write-move .ensures)
+    laid-next _ _ (moves-grow _ _) (l .loop .inv) h _ (move-piece (s .args .shape) J L h _ _ _ (m .making-task .ensures .0) (x .before .reading-task .ensures .0) (t .move-start .ensures) (e ∙ t .before .if2 .taken)) _ _ (w .write-move .ensures)
 
 add-at : tie.Need-add-at Inv-loop μ-loop
 add-at c =
@@ -115,7 +102,7 @@ loop-again-2 c =
     let h = m .before .if1 .taken in
     let J = jobOf (now (s .args .job)) in
     let L = entriesOf (now (s .args .schedule)) in
-    let e = moved-in (s .pre .0) L h (m .maker .ensures) (x .before .reader .ensures) (x .crosses .ensures) in
+    let e = moved-in (s .pre .0) L h (m .making-task .ensures .0) (x .before .reading-task .ensures .0) (x .crosses .ensures) in
     laid-skip _ _ (moves-grow _ _) (l .loop .inv) h (no-piece (s .args .shape) J L h (e ∙ c .if2 .left))
 
 same-length : tie.Need-same-length Inv-loop μ-loop
@@ -131,8 +118,8 @@ write-moves-spec =
     Inv-loop
     μ-loop
     loop-holds
-    maker-requires
-    reader-requires
+    making-task-requires
+    reading-task-requires
     crosses-requires
     move-start-requires
     sub-write-move
