@@ -53,7 +53,8 @@ pub fn set_moves(
     ensures { λ r. ⌜ length (now (schedule .exit)) ≡ scheduleLength ⌝ }
     ensures { λ r. ⌜ ((j : ℕ) → j < maxTasks → runFrom (entriesOf (now (schedule .exit))) j ≡ runFrom (entriesOf (now (schedule .entry))) j) ⌝ }
     ensures { λ r. ⌜ listBelow (shape .files) (entriesOf (now (schedule .exit)) .moveStart) ≡
-        listBelow (fileCount (instanceOf shape (now (job .entry)))) (moveWith (instanceOf shape (now (job .entry))) (scheduleOf shape (now (schedule .entry))) i (colourBy colour) start) ⌝ }
+        listBelow (fileCount (instanceOf shape (now (job .entry))))
+        (moveWith (instanceOf shape (now (job .entry))) (scheduleOf shape (now (schedule .entry))) i (colourBy colour) start) ⌝ }
 {
     let mut k: usize = 0;
     while k < shape.files {

@@ -22,7 +22,8 @@ module _ (xs : List ℕ) (long : length xs ≡ scheduleLength) where
       → runsOf (suc i) (entriesOf (withRunAt xs i p s)) ≡ withRun (runsOf i (entriesOf xs)) (record { processor = p; start = s })
   run-stored h p s = ap (λ (l : List Run). record { runs = l; moves = [] }) (runs-stored xs long h p s)
 
-  pub move-stored : {k : ℕ} → k < maxFiles → (t n : ℕ) → n ≤ maxTasks → movesOf n (suc k) (entriesOf (withMoveAt xs k t)) ≡ withMove (movesOf n k (entriesOf xs)) t
+  pub move-stored : {k : ℕ} → k < maxFiles → (t n : ℕ) → n ≤ maxTasks
+      → movesOf n (suc k) (entriesOf (withMoveAt xs k t)) ≡ withMove (movesOf n k (entriesOf xs)) t
   move-stored h t n few =
       ap₂ (λ (l : List Run) (m : List ℕ). record { runs = l; moves = m })
       (list-cong n _ _ (λ j l. move-runs xs h t j (omega arith))) (moves-stored xs long h t)

@@ -68,7 +68,10 @@ fn line_at(shape: Shape, paper: &[u8], at: usize) -> Cut
 fn read_runs(shape: Shape, paper: &[u8], schedule: &mut [u64; layout::SCHEDULE]) -> Progress
     requires { ⌜ Processors shape ⌝ }
     requires { ⌜ shape .tasks ≤ maxTasks ⌝ }
-    ensures { λ r. ⌜ ((J : Job) → goesOn (readMoves (instanceFrom shape J) (fileCount (instanceFrom shape J)) (runsOf (shape .tasks) (entriesOf (now (schedule .exit))))) (now (paper .entry)) r ≡ readRuns (instanceFrom shape J) (taskCount (instanceFrom shape J)) nothing 1 (linesOf (now (paper .entry)))) ⌝ }
+    ensures { λ r. ⌜ ((J : Job) →
+        goesOn (readMoves (instanceFrom shape J) (fileCount (instanceFrom shape J)) (runsOf (shape .tasks) (entriesOf (now (schedule .exit)))))
+        (now (paper .entry)) r ≡
+        readRuns (instanceFrom shape J) (taskCount (instanceFrom shape J)) nothing 1 (linesOf (now (paper .entry)))) ⌝ }
     ensures { λ r. ⌜ InText (now (paper .entry)) maxTasks r ⌝ }
 {
     let mut at = 0;
@@ -128,7 +131,9 @@ fn read_moves<'a>(
 ) -> Progress
     requires { ⌜ JobInBounds shape (now job) ⌝ }
     requires { ⌜ (from ≤ length (now paper)) × (line ≤ maxTasks + 1) ⌝ }
-    ensures { λ r. ⌜ goesOn (readClaim (instanceOf shape (now (job .entry))) (scheduleOf shape (now (schedule .exit)))) (now (paper .entry)) r ≡ readMoves (instanceOf shape (now (job .entry))) (fileCount (instanceOf shape (now (job .entry)))) (runsOf (shape .tasks) (entriesOf (now (schedule .entry)))) line (linesOf (drop from (now (paper .entry)))) ⌝ }
+    ensures { λ r. ⌜ goesOn (readClaim (instanceOf shape (now (job .entry))) (scheduleOf shape (now (schedule .exit)))) (now (paper .entry)) r ≡
+        readMoves (instanceOf shape (now (job .entry))) (fileCount (instanceOf shape (now (job .entry))))
+        (runsOf (shape .tasks) (entriesOf (now (schedule .entry)))) line (linesOf (drop from (now (paper .entry)))) ⌝ }
     ensures { λ r. ⌜ InText (now (paper .entry)) (maxTasks + maxFiles) r ⌝ }
 {
     let mut at = from;

@@ -70,7 +70,8 @@ fn write_moves<'a>(
 ) -> usize
     requires { ⌜ JobInBounds shape (now job) ⌝ }
     requires { ⌜ length (moveLines (instanceOf shape (now job)) (scheduleOf shape (now schedule)) (shape .files)) ≤ length (now out) ⌝ }
-    ensures { λ r. ⌜ Wrote (moveLines (instanceOf shape (now (job .entry))) (scheduleOf shape (now (schedule .entry))) (shape .files)) r (now (out .entry)) (now (out .exit)) ⌝ }
+    ensures { λ r. ⌜ Wrote (moveLines (instanceOf shape (now (job .entry))) (scheduleOf shape (now (schedule .entry))) (shape .files))
+        r (now (out .entry)) (now (out .exit)) ⌝ }
 {
     let mut at: usize = 0;
     let mut k: usize = 0;
@@ -99,7 +100,8 @@ pub fn write<'a>(
 ) -> usize
     requires { ⌜ JobInBounds shape (now job) ⌝ }
     requires { ⌜ length (scheduleText (instanceOf shape (now job)) (scheduleOf shape (now schedule)) (asClaim claim)) ≤ length (now out) ⌝ }
-    ensures { λ r. ⌜ Wrote (scheduleText (instanceOf shape (now (job .entry))) (scheduleOf shape (now (schedule .entry))) (asClaim claim)) r (now (out .entry)) (now (out .exit)) ⌝ }
+    ensures { λ r. ⌜ Wrote (scheduleText (instanceOf shape (now (job .entry))) (scheduleOf shape (now (schedule .entry))) (asClaim claim))
+        r (now (out .entry)) (now (out .exit)) ⌝ }
 {
     let runs_end = write_runs(shape, schedule, out);
     let moves = write_moves(shape, job, schedule, &mut out[runs_end..]);

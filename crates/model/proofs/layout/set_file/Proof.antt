@@ -29,9 +29,9 @@ store-two-requires-2 c κs = search needs
 returns : tie.Need-returns
 returns c =
     let a = c .before .before .before .before .args in
-    let k = a .k in (
-      c .store-two2 .ensures
-          ∙ ap (λ (l : List ℕ). set (set l (2 * maxTasks + 2 * maxFiles + k) (a .size)) (2 * maxTasks + 3 * maxFiles + k) (a .time)) (c .before .before .store-two .ensures),
+    let p = 2 * maxTasks + 2 * maxFiles + a .k in
+    let q = 2 * maxTasks + 3 * maxFiles + a .k in (
+      c .store-two2 .ensures ∙ ap (λ (l : List ℕ). set (set l p (a .size)) q (a .time)) (c .before .before .store-two .ensures),
       search needs,
     )
 

@@ -30,9 +30,10 @@ loop-less c = search needs
 
 loop-again : tie.Need-loop-again Inv-loop μ-loop
 loop-again c =
-    let l = c .before .before .before .before .before .before .loop in
+    let h = c .before .before .before .before .if1 .taken in
+    let m = c .before .before .before .before .before .before .loop .inv .1 in
     let set = c .set-move-start .ensures in
-    (omega arith, λ f. moves-turn f _ _ _ _ (c .before .before .before .before .if1 .taken) (l .inv .1 f) (c .before .before .move-with .ensures) (set .0) (set .1 .1))
+    (omega arith, λ f. moves-turn f _ _ _ _ h (m f) (c .before .before .move-with .ensures) (set .0) (set .1 .1))
 
 returns : tie.Need-returns Inv-loop μ-loop
 returns c =
