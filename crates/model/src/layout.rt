@@ -1,11 +1,12 @@
 // Where the numbers of an instance and of a schedule stand: a job array and a schedule array, beside a shape of plain numbers.
+// The places are known here only: other modules read and write the arrays by the functions below.
 ghost use mathlib.Core.Path.{_≡_};
 ghost use mathlib.Core.Bool.{cond};
 ghost use Prim.Native.Nat.{_<_, _≤_, max};
 ghost use lib.Dec.{leb};
+ghost use lib.ListN.{length, set};
 ghost use Rattle.rules.specs.Limits.{maxTasks, maxFiles};
 ghost use Rattle.model.specs.Layout.{JobInBounds, jobOf, entriesOf, withTaskAt, withFileAt, withRunAt, withMoveAt, jobLength, scheduleLength};
-ghost use lib.ListN.{length, set};
 use super::choice::select;
 use rules::Board;
 

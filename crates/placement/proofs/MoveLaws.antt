@@ -12,7 +12,7 @@ use Rattle.rules.specs.Model.{Instance, Schedule, Colour, runAt, moveAt, fileAt
 use Rattle.rules.specs.Scheduling.{crossing, moveWith}
 use Rattle.rules.proofs.CountLaws.{list-cong}
 use Rattle.model.specs.declared.layout.Shape.{Shape}
-use Rattle.model.specs.Layout.{Job, Entries, entriesOf, runFrom, instanceFrom, scheduleFrom, JobBounds, scheduleLength, withMoveAt}
+use Rattle.model.specs.Layout.{Job, Entries, entriesOf, runFrom, instanceFrom, scheduleFrom, scheduleOf, JobBounds, scheduleLength, withMoveAt}
 use Rattle.model.proofs.LayoutLaws.{file-count, maker-at, move-time-at, run-at, move-at}
 use Rattle.model.proofs.WriteLaws.{move-here, move-other, move-runs}
 
@@ -35,7 +35,7 @@ module _ {b : Shape} {J : Job} (f : JobBounds b J) (xs : List ℕ) (i : ℕ) (c 
 
   -- when a file moves, by the schedule xs
   abbrev pub moveBy : ℕ → ℕ
-  moveBy = moveWith inst (scheduleFrom b (entriesOf xs)) i c start
+  moveBy = moveWith inst (scheduleOf b xs) i c start
 
   -- ys is the schedule xs with the move starts of the first k files set
   pub record MovesTo (ys : List ℕ) (k : ℕ) : Type 0 where
@@ -54,16 +54,18 @@ module _ {b : Shape} {J : Job} (f : JobBounds b J) (xs : List ℕ) (i : ℕ) (c 
 
   module _ {ys : List ℕ} {k : ℕ} (h : k < b .files) (m : MovesTo ys k) where
     -- the runs are those of xs, so the same files cross
-    same-run : (j : ℕ) → j < b .tasks → runAt (scheduleFrom b (entriesOf ys)) j ≡ runAt (scheduleFrom b (entriesOf xs)) j
+    same-run : (j : ℕ) → j < b .tasks → runAt (scheduleOf b ys) j ≡ runAt (scheduleOf b xs) j
     same-run j l = run-at b (entriesOf ys) j l ∙ m .runs j (omega (arith, f .tasks)) ∙ sym (run-at b (entriesOf xs) j l)
 
-    same-move : moveWith inst (scheduleFrom b (entriesOf ys)) i c start k ≡ moveBy k
+    same-move : moveWith inst (scheduleOf b ys) i c start k ≡ moveBy k
     same-move =
-        let r : runAt (scheduleFrom b (entriesOf ys)) (fileAt inst k .maker) ≡ runAt (scheduleFrom b (entriesOf xs)) (fileAt inst k .maker) = same-run (fileAt inst k .maker) (omega (arith, maker-at b J k h, f .maker k h)) in
-        let u : moveAt (scheduleFrom b (entriesOf ys)) k ≡ moveAt (scheduleFrom b (entriesOf xs)) k = move-at b (entriesOf ys) k h ∙ m .rest k (omega arith) ∙ sym (move-at b (entriesOf xs) k h) in
+        let from : ℕ = fileAt inst k .maker in
+        let r : runAt (scheduleOf b ys) from ≡ runAt (scheduleOf b xs) from = same-run from (omega (arith, maker-at b J k h, f .maker k h)) in
+        let u : moveAt (scheduleOf b ys) k ≡ moveAt (scheduleOf b xs) k =
+        move-at b (entriesOf ys) k h ∙ m .rest k (omega arith) ∙ sym (move-at b (entriesOf xs) k h) in
         rw (r, u)
 
-    pub moves-turn : {t : ℕ} {zs : List ℕ} → t ≡ moveWith inst (scheduleFrom b (entriesOf ys)) i c start k → zs ≡ withMoveAt ys k t → length zs ≡ scheduleLength
+    pub moves-turn : {t : ℕ} {zs : List ℕ} → t ≡ moveWith inst (scheduleOf b ys) i c start k → zs ≡ withMoveAt ys k t → length zs ≡ scheduleLength
         → MovesTo zs (k + 1)
     moves-turn {t} e w long =
         let l : k < maxFiles = omega (arith, f .files) in

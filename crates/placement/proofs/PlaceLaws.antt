@@ -13,7 +13,7 @@ use Rattle.rules.specs.Model.{Instance, Run, unplaced, processorCount, fileCoun
 use Rattle.rules.specs.Scheduling.{Partial, slotOf, chosenProcessor, moveWith, assign, empty, finishOn}
 use Rattle.rules.proofs.CountLaws.{list-cong, list-set, list-same, getD-same}
 use Rattle.model.specs.declared.layout.Shape.{Shape}
-use Rattle.model.specs.Layout.{Job, entriesOf, runFrom, instanceFrom, scheduleFrom, partialFrom, colourBy, countIn, JobBounds, scheduleLength, lastLength, withRunAt}
+use Rattle.model.specs.Layout.{Job, entriesOf, runFrom, instanceFrom, scheduleFrom, scheduleOf, partialFrom, colourBy, countIn, JobBounds, scheduleLength, lastLength, withRunAt}
 use Rattle.model.proofs.LayoutLaws.{file-count, task-count, finish-on-at, processors-of}
 use Rattle.model.proofs.WriteLaws.{run-here, run-other, run-moves}
 use Rattle.placement.specs.Slots.{slotIn}
@@ -34,8 +34,10 @@ module _ {b : Shape} {J : Job} (f : JobBounds b J) (xs last : List ℕ) (x : Boo
 
   module _ (ys : List ℕ) (size : length ys ≡ scheduleLength)
       (same : (j : ℕ) → j < maxTasks → runFrom (entriesOf ys) j ≡ runFrom (entriesOf xs) j) (p : ℕ) where
-    module _ {slot time : ℕ} (known : length last ≡ lastLength) (moves : listBelow (b .files) (entriesOf ys .moveStart) ≡ listBelow (fileCount I) (moveWith I (scheduleFrom b (entriesOf xs)) i (colourBy x) s))
-        (chosen : p ≡ chosenProcessor I Q (colourBy x) s) (exists : p < countIn b x) (here : slot ≡ slotIn b x p) (takes : time ≡ cond x (J .onBlue i) (J .onRed i)) where
+    module _ {slot time : ℕ} (known : length last ≡ lastLength)
+        (moves : listBelow (b .files) (entriesOf ys .moveStart) ≡ listBelow (fileCount I) (moveWith I (scheduleOf b xs) i (colourBy x) s))
+        (chosen : p ≡ chosenProcessor I Q (colourBy x) s) (exists : p < countIn b x)
+        (here : slot ≡ slotIn b x p) (takes : time ≡ cond x (J .onBlue i) (J .onRed i)) where
       l : i < maxTasks
       l = omega (arith, f .tasks)
 
@@ -46,7 +48,8 @@ module _ {b : Shape} {J : Job} (f : JobBounds b J) (xs last : List ℕ) (x : Boo
       finish : s + time ≡ finishOn I i (colourBy x) s
       finish = finish-on-at b J inside x s takes
 
-      runs-placed : listBelow (b .tasks) (runFrom (entriesOf (withRunAt ys i (slot + 1) s))) ≡ set (listBelow (b .tasks) (runFrom (entriesOf xs))) i (record { processor = suc slot; start = s })
+      runs-placed : listBelow (b .tasks) (runFrom (entriesOf (withRunAt ys i (slot + 1) s)))
+          ≡ set (listBelow (b .tasks) (runFrom (entriesOf xs))) i (record { processor = suc slot; start = s })
       runs-placed =
           list-set (b .tasks) (runFrom (entriesOf xs)) (runFrom (entriesOf (withRunAt ys i (slot + 1) s))) i _ inside
           (run-here ys l (slot + 1) s size ∙ rw (add-one slot))
