@@ -20,15 +20,14 @@ use Rattle.rules.specs.InstanceText.{taskLine, fileLine, ascends, fileAllowed, 
 use Rattle.rules.specs.declared.Board.{Board}
 use Rattle.rules.proofs.Tests.{and-no}
 use Rattle.rules.proofs.ReadingLaws.{and-true-4}
-use Rattle.model.specs.Layout.{Job, jobOf, instanceFrom}
+use Rattle.model.specs.Layout.{Job, jobOf, instanceFrom, jobLength, withTaskAt, withFileAt}
 use Rattle.model.specs.declared.layout.Shape.{Shape}
 use Rattle.model.proofs.LayoutLaws.{file-count, task-count, maker-at, reader-at}
+use Rattle.model.proofs.WriteLaws.{task-stored, file-stored}
 use Rattle.instance.specs.declared.line.Line.{Line}
 use Rattle.instance.specs.declared.line.Line.the-variants.{Board as BoardLine, Task as TaskLine, File as FileLine, Malformed, OutOfRange}
 use Rattle.instance.specs.Lines.{asReading}
 use Rattle.instance.proofs.line.Line.{the-type}
-use Rattle.instance.specs.Steps.{jobLength}
-use Rattle.instance.proofs.JobLaws.{taskPut, filePut, task-stored, file-stored}
 
 -- ---- the first line
 pub begun : (b : Board) (J : Job) → instanceFrom (record { tasks = 0; files = 0; board = b }) J ≡ record { blueSide = sideFrom (b .blue); redSide = sideFrom (b .red); tasks = []; files = [] }
@@ -73,8 +72,8 @@ module _ (b : Shape) (J : Job) where
     pub task-misnumbered : (i ≡ b .tasks + 1 → ⊥) → wrong undue ≡ orUndue (withLine I (taskLine i a))
     task-misnumbered h = rw (task-count b J, ← add-one, ne-eqb _ _ h, and-no)
 
-    task-next : b .files ≡ 0 → i ≡ b .tasks + 1 → eqb (fileCount I) 0 && eqb i (suc (taskCount I)) ≡ true
-    task-next z e = rw (file-count b J, task-count b J, ← add-one, eq-eqb _ _ z, eq-eqb _ _ e)
+  task-next : (i : ℕ) → b .files ≡ 0 → i ≡ b .tasks + 1 → eqb (fileCount I) 0 && eqb i (suc (taskCount I)) ≡ true
+  task-next i z e = rw (file-count b J, task-count b J, ← add-one, eq-eqb _ _ z, eq-eqb _ _ e)
 
   -- a file
   pub ascends-none : (i j : ℕ) → b .files ≡ 0 → true ≡ ascends I i j
@@ -98,13 +97,14 @@ module _ (b : Shape) (J : Job) where
       (ltb-true _ _ (t .0), omega (arith, ltb-true (fileCount I) maxFiles (t .3), file-count b J))
 
 -- ---- what is taken
-module _ (b : Shape) (xs : List ℕ) (long : length xs ≡ jobLength) where
-  pub task-taken : (i : ℕ) (a : Task) → b .tasks < maxTasks → b .files ≡ 0 → i ≡ b .tasks + 1
-      → right (instanceFrom (record { tasks = b .tasks + 1; files = 0; board = b .board }) (jobOf (taskPut xs (b .tasks) a))) ≡ orUndue (withLine (instanceFrom b (jobOf xs)) (taskLine i a))
-  task-taken i a h z e = rw (task-next b (jobOf xs) i a z e) (ap right (task-stored b xs long a h z))
+module _ (b : Shape) (xs : List ℕ) (long : length xs ≡ jobLength) {ys : List ℕ} where
+  pub task-taken : (i u v : ℕ) → b .tasks < maxTasks → b .files ≡ 0 → i ≡ b .tasks + 1 → ys ≡ withTaskAt xs (b .tasks) u v
+      → right (instanceFrom (record { tasks = b .tasks + 1; files = b .files; board = b .board }) (jobOf ys))
+      ≡ orUndue (withLine (instanceFrom b (jobOf xs)) (taskLine i (record { onBlue = u; onRed = v })))
+  task-taken i u v h z e w = rw (task-next b (jobOf xs) i z e, w) (ap right (task-stored b xs long h u v))
 
-  pub file-taken : (i j f c : ℕ) → b .tasks ≤ maxTasks → fileAllowed (instanceFrom b (jobOf xs)) i j ≡ true
-      → right (instanceFrom (record { tasks = b .tasks; files = b .files + 1; board = b .board }) (jobOf (filePut xs (b .files) (record { maker = i - 1; reader = j - 1; size = f; moveTime = c }))))
+  pub file-taken : (i j f c : ℕ) → b .tasks ≤ maxTasks → fileAllowed (instanceFrom b (jobOf xs)) i j ≡ true → ys ≡ withFileAt xs (b .files) (i - 1) (j - 1) f c
+      → right (instanceFrom (record { tasks = b .tasks; files = b .files + 1; board = b .board }) (jobOf ys))
       ≡ orUndue (withLine (instanceFrom b (jobOf xs)) (fileLine i j f c))
-  file-taken i j f c t e =
-      rw (e, ← sub-one, ← sub-one) (ap right (file-stored b xs long (record { maker = i - 1; reader = j - 1; size = f; moveTime = c }) t (file-room b (jobOf xs) i j e .1)))
+  file-taken i j f c t e w =
+      rw (e, w, ← sub-one, ← sub-one) (ap right (file-stored b xs long t (file-room b (jobOf xs) i j e .1) (i - 1) (j - 1) f c))

@@ -2,8 +2,6 @@
 
 -- one line: what its numbers say
 pub mod ParseLaws
--- the job array with one task or one file more
-pub mod JobLaws
 -- the line that is due
 pub mod BuildLaws
 -- the lines of a sheet

@@ -65,11 +65,11 @@ one-line (b ∷ sheet) l = rw (line-unended (b ∷ sheet) (omega arith) l)
 
 -- ---- the loop over the lines behind the board's
 pub record Reading (begun : Shape) (sheet old : List ℕ) (shape : Shape) (xs rest : List ℕ) (k : ℕ) : Type 0 where
-  pub room : Room shape xs
+  pub room : Room shape
   pub places : k + length rest ≤ 2 + length sheet
   pub left : readRest (instanceFrom begun (jobOf old)) 2 (linesOf sheet) ≡ readRest (instanceFrom shape (jobOf xs)) k (linesOf rest)
 
-pub reading-start : (begun : Shape) (sheet old : List ℕ) → Room begun old → Reading begun sheet old begun old sheet 2
+pub reading-start : (begun : Shape) (sheet old : List ℕ) → Room begun → Reading begun sheet old begun old sheet 2
 reading-start begun sheet old r = record { room = r; places = omega arith; left = refl }
 
 module _ {begun : Shape} {sheet old : List ℕ} {shape : Shape} {xs rest : List ℕ} {k : ℕ} (inv : Reading begun sheet old shape xs rest k) where
@@ -91,7 +91,7 @@ module _ {begun : Shape} {sheet old : List ℕ} {shape : Shape} {xs rest : List 
         → refused w k ≡ readRest (instanceFrom begun (jobOf old)) 2 (linesOf sheet)
     reading-refused w d = sym (turn _ refl ∙ rest-wrong _ k (ended line) _ w (sym d))
 
-    pub reading-next : (b : Shape) (ys : List ℕ) → right (instanceFrom b (jobOf ys)) ≡ due (withLine (instanceFrom shape (jobOf xs))) (instanceLine (ended line)) → Room b ys
+    pub reading-next : (b : Shape) (ys : List ℕ) → right (instanceFrom b (jobOf ys)) ≡ due (withLine (instanceFrom shape (jobOf xs))) (instanceLine (ended line)) → Room b
         → Reading begun sheet old b ys (take (length rest - (length line + 1)) (drop (length line + 1) rest)) (k + 1)
     reading-next b ys d r =
         record {

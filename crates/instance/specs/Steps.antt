@@ -1,8 +1,6 @@
 -- What adding a line gives, as the rules have it.
-use Prim.Native.Nat.{ℕ, _+_, _*_, _≤_}
-use mathlib.Core.Path.{_≡_}
+use Prim.Native.Nat.{ℕ, _≤_}
 use mathlib.Core.List.{List}
-use lib.ListN.{length}
 use Rattle.rules.specs.Model.{Instance}
 use Rattle.rules.specs.Text.{Reading, wrong, right}
 use Rattle.rules.specs.Limits.{maxTasks, maxFiles}
@@ -12,15 +10,10 @@ use Rattle.model.specs.declared.layout.Shape.{Shape}
 use Rattle.instance.specs.declared.build.Step.{Step}
 use Rattle.instance.specs.declared.build.Step.the-variants.{Next, Refused}
 
--- the length of a job array
-abbrev pub jobLength : ℕ
-jobLength = 2 * maxTasks + 4 * maxFiles
-
 -- the tasks and the files have their places in the job array
-pub record Room (b : Shape) (xs : List ℕ) : Type 0 where
+pub record Room (b : Shape) : Type 0 where
   pub tasks : b .tasks ≤ maxTasks
   pub files : b .files ≤ maxFiles
-  pub long : length xs ≡ jobLength
 
 -- a step, with the job array that it left
 abbrev pub asStep : Step → List ℕ → Reading Instance
@@ -28,6 +21,6 @@ asStep (Next b) xs = right (instanceFrom b (jobOf xs))
 asStep (Refused f) xs = wrong (asFault f)
 
 -- the same of the shape that a step leads to
-abbrev pub RoomIn : Step → List ℕ → Type 0
-RoomIn (Next b) xs = Room b xs
-RoomIn (Refused f) xs = Unit {0}
+abbrev pub RoomIn : Step → Type 0
+RoomIn (Next b) = Room b
+RoomIn (Refused f) = Unit {0}

@@ -2,7 +2,6 @@
 ghost use mathlib.Core.Path.{_≡_};
 ghost use mathlib.Core.List.{List};
 ghost use Prim.Native.Nat.{ℕ};
-ghost use lib.ListN.{length};
 ghost use Rattle.rules.specs.Text.{due, orUndue, faultOf};
 ghost use Rattle.rules.specs.InstanceText.{taskLine, fileLine, ascends, fileAllowed, withBoard, withLine};
 ghost use Rattle.rules.specs.Limits.{taskNumbers};
@@ -10,7 +9,7 @@ ghost use Rattle.rules.specs.Promises.{In};
 ghost use Rattle.text.specs.Faults.{asFault};
 ghost use Rattle.model.specs.Layout.{instanceOf};
 ghost use Rattle.instance.specs.Lines.{asReading, Numbered};
-ghost use Rattle.instance.specs.Steps.{jobLength, Room, asStep, RoomIn};
+ghost use Rattle.instance.specs.Steps.{Room, asStep, RoomIn};
 use crate::line::Line;
 use model::layout;
 use model::layout::Shape;
@@ -48,7 +47,7 @@ fn fault_of(line: Line) -> Fault
 // The board line is due first. The instance has no task and no file yet, whatever the job array holds.
 pub fn first(line: Line) -> Step
     ensures { λ r. ⌜ ((xs : List ℕ) → asStep r xs ≡ due withBoard (asReading line)) ⌝ }
-    ensures { λ r. ⌜ ((xs : List ℕ) → length xs ≡ jobLength → RoomIn r xs) ⌝ }
+    ensures { λ r. ⌜ RoomIn r ⌝ }
 {
     let Line::Board { board } = line else {
         return Step::Refused(fault_of(line));
@@ -62,10 +61,11 @@ pub fn first(line: Line) -> Step
 
 // A task's line: the next task, before any file.
 fn add_task(shape: Shape, job: &mut [u64; layout::JOB], i: u64, blue: u64, red: u64) -> Step
-    requires { ⌜ Room shape (now job) ⌝ }
+    requires { ⌜ Room shape ⌝ }
     requires { ⌜ In taskNumbers i ⌝ }
-    ensures { λ r. ⌜ asStep r (now (job .exit)) ≡ orUndue (withLine (instanceOf shape (now (job .entry))) (taskLine i (record { onBlue = blue; onRed = red }))) ⌝ }
-    ensures { λ r. ⌜ RoomIn r (now (job .exit)) ⌝ }
+    ensures { λ r. ⌜ asStep r (now (job .exit)) ≡
+        orUndue (withLine (instanceOf shape (now (job .entry))) (taskLine i (record { onBlue = blue; onRed = red }))) ⌝ }
+    ensures { λ r. ⌜ RoomIn r ⌝ }
 {
     if shape.files != 0 {
         return Step::Refused(Fault::Undue);
@@ -74,19 +74,18 @@ fn add_task(shape: Shape, job: &mut [u64; layout::JOB], i: u64, blue: u64, red: 
     if i != at as u64 + 1 {
         return Step::Refused(Fault::Undue);
     }
-    job[at] = blue;
-    job[layout::ON_RED + at] = red;
+    layout::set_task(job, at, blue, red);
     let board = shape.board;
     Step::Next(Shape {
         tasks: at + 1,
-        files: 0,
+        files: shape.files,
         board,
     })
 }
 
 // Whether a pair of tasks, counted from 0, is behind that of the last file.
 fn ascending(shape: Shape, job: &[u64; layout::JOB], i: u64, j: u64) -> bool
-    requires { ⌜ Room shape (now job) ⌝ }
+    requires { ⌜ Room shape ⌝ }
     ensures { λ r. ⌜ r ≡ ascends (instanceOf shape (now (job .entry))) i j ⌝ }
 {
     if shape.files == 0 {
@@ -105,7 +104,7 @@ fn ascending(shape: Shape, job: &[u64; layout::JOB], i: u64, j: u64) -> bool
 
 // Whether a file from task i to task j, counted from 1, may come next.
 fn file_allowed(shape: Shape, job: &[u64; layout::JOB], i: u64, j: u64) -> bool
-    requires { ⌜ Room shape (now job) ⌝ }
+    requires { ⌜ Room shape ⌝ }
     requires { ⌜ In taskNumbers i ⌝ }
     ensures { λ r. ⌜ r ≡ fileAllowed (instanceOf shape (now (job .entry))) i j ⌝ }
 {
@@ -130,19 +129,17 @@ fn add_file(
     size: u64,
     time: u64,
 ) -> Step
-    requires { ⌜ Room shape (now job) ⌝ }
+    requires { ⌜ Room shape ⌝ }
     requires { ⌜ In taskNumbers i × In taskNumbers j ⌝ }
-    ensures { λ r. ⌜ asStep r (now (job .exit)) ≡ orUndue (withLine (instanceOf shape (now (job .entry))) (fileLine i j size time)) ⌝ }
-    ensures { λ r. ⌜ RoomIn r (now (job .exit)) ⌝ }
+    ensures { λ r. ⌜ asStep r (now (job .exit)) ≡
+        orUndue (withLine (instanceOf shape (now (job .entry))) (fileLine i j size time)) ⌝ }
+    ensures { λ r. ⌜ RoomIn r ⌝ }
 {
     if !file_allowed(shape, job, i, j) {
         return Step::Refused(Fault::Undue);
     }
     let at = shape.files;
-    job[layout::MAKER + at] = i - 1;
-    job[layout::READER + at] = j - 1;
-    job[layout::SIZE + at] = size;
-    job[layout::MOVE_TIME + at] = time;
+    layout::set_file(job, at, i - 1, j - 1, size, time);
     let tasks = shape.tasks;
     let board = shape.board;
     Step::Next(Shape {
@@ -154,10 +151,10 @@ fn add_file(
 
 // Behind the board line a task or a file is due.
 pub fn add(shape: Shape, job: &mut [u64; layout::JOB], line: Line) -> Step
-    requires { ⌜ Room shape (now job) ⌝ }
+    requires { ⌜ Room shape ⌝ }
     requires { ⌜ Numbered line ⌝ }
     ensures { λ r. ⌜ asStep r (now (job .exit)) ≡ due (withLine (instanceOf shape (now (job .entry)))) (asReading line) ⌝ }
-    ensures { λ r. ⌜ RoomIn r (now (job .exit)) ⌝ }
+    ensures { λ r. ⌜ RoomIn r ⌝ }
 {
     if let Line::Task { i, blue, red } = line {
         return add_task(shape, job, i, blue, red);

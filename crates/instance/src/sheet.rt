@@ -5,7 +5,7 @@ ghost use lib.ListN.{length};
 ghost use Rattle.rules.specs.Text.{linesOf};
 ghost use Rattle.rules.specs.InstanceText.{readRest, readInstance};
 ghost use Rattle.rules.specs.Limits.{maxText};
-ghost use Rattle.model.specs.Layout.{jobOf, instanceFrom};
+ghost use Rattle.model.specs.Layout.{instanceOf};
 ghost use Rattle.instance.specs.Steps.{Room};
 ghost use Rattle.instance.specs.Reads.{asRead};
 use crate::build::Step;
@@ -25,9 +25,9 @@ pub enum InstanceRead {
 
 // The lines behind the board's; the first of them is line 2.
 fn rest_of(begun: Shape, sheet: &[u8], job: &mut [u64; layout::JOB]) -> InstanceRead
-    requires { ⌜ Room begun (now job) ⌝ }
+    requires { ⌜ Room begun ⌝ }
     requires { ⌜ length (now sheet) ≤ maxText ⌝ }
-    ensures { λ r. ⌜ asRead r (now (job .exit)) ≡ readRest (instanceFrom begun (jobOf (now (job .entry)))) 2 (linesOf (now (sheet .entry))) ⌝ }
+    ensures { λ r. ⌜ asRead r (now (job .exit)) ≡ readRest (instanceOf begun (now (job .entry))) 2 (linesOf (now (sheet .entry))) ⌝ }
 {
     let mut shape = begun;
     let mut rest = sheet;

@@ -6,6 +6,8 @@ pub mod StepLaws
 pub mod HoldCases
 -- the instance and the schedule of the arrays, by index
 pub mod LayoutLaws
+-- the arrays after a write
+pub mod WriteLaws
 -- crossing files
 pub mod CrossingLaws
 -- what the two runs of a file imply: whether it moves, its times and its hold

@@ -2,7 +2,7 @@
 use Prim.Native.Nat.{ℕ, _+_, _*_, _≤_, _<_}
 use mathlib.Core.Bool.{Bool, cond}
 use mathlib.Core.List.{List}
-use lib.ListN.{getD}
+use lib.ListN.{getD, set}
 use Rattle.rules.specs.Count.{listBelow}
 use Rattle.rules.specs.Limits.{maxTasks, maxFiles, processorCounts, memoryLimits, runTimes, moveTimes, fileSizes, ticks}
 use Rattle.rules.specs.Model.{Colour, blue, red, Instance, Schedule, Task, File, Run}
@@ -45,6 +45,10 @@ entriesOf xs = record {
   moveStart = λ k. getD xs (2 * maxTasks + k) 0;
 }
 
+-- the length of a job array
+abbrev pub jobLength : ℕ
+jobLength = 2 * maxTasks + 4 * maxFiles
+
 -- the length of a schedule array
 abbrev pub scheduleLength : ℕ
 scheduleLength = 2 * maxTasks + maxFiles
@@ -52,6 +56,24 @@ scheduleLength = 2 * maxTasks + maxFiles
 -- the length of an array of last finishes
 abbrev pub lastLength : ℕ
 lastLength = 2 * processorCounts .most
+
+-- ---- the arrays with one task, file, run or move start written
+
+abbrev pub withTaskAt : List ℕ → ℕ → ℕ → ℕ → List ℕ
+withTaskAt job i onBlue onRed = set (set job i onBlue) (maxTasks + i) onRed
+
+abbrev pub withFileAt : List ℕ → ℕ → ℕ → ℕ → ℕ → ℕ → List ℕ
+withFileAt job k maker reader size time =
+    set
+    (set (set (set job (2 * maxTasks + k) maker) (2 * maxTasks + maxFiles + k) reader) (2 * maxTasks + 2 * maxFiles + k) size)
+    (2 * maxTasks + 3 * maxFiles + k)
+    time
+
+abbrev pub withRunAt : List ℕ → ℕ → ℕ → ℕ → List ℕ
+withRunAt schedule i processor start = set (set schedule i processor) (maxTasks + i) start
+
+abbrev pub withMoveAt : List ℕ → ℕ → ℕ → List ℕ
+withMoveAt schedule k start = set schedule (2 * maxTasks + k) start
 
 -- ---- the rules' instance and schedule
 

@@ -1,10 +1,12 @@
 // Where the numbers of an instance and of a schedule stand: a job array and a schedule array, beside a shape of plain numbers.
+// The places are known here only: other modules read and write the arrays by the functions below.
 ghost use mathlib.Core.Path.{_≡_};
 ghost use mathlib.Core.Bool.{cond};
 ghost use Prim.Native.Nat.{_<_, _≤_, max};
 ghost use lib.Dec.{leb};
+ghost use lib.ListN.{length, set};
 ghost use Rattle.rules.specs.Limits.{maxTasks, maxFiles};
-ghost use Rattle.model.specs.Layout.{jobOf, entriesOf};
+ghost use Rattle.model.specs.Layout.{JobInBounds, jobOf, entriesOf, withTaskAt, withFileAt, withRunAt, withMoveAt, jobLength, scheduleLength};
 use super::choice::select;
 use rules::Board;
 
@@ -18,22 +20,22 @@ pub struct Shape {
 // A job array: the run times on blue and on red of each task; then of each file maker, reader, size and move time.
 pub const JOB: usize = 2 * Board::MAX_TASKS + 4 * Board::MAX_FILES;
 
-pub const ON_RED: usize = Board::MAX_TASKS;
+const ON_RED: usize = Board::MAX_TASKS;
 
-pub const MAKER: usize = ON_RED + Board::MAX_TASKS;
+const MAKER: usize = ON_RED + Board::MAX_TASKS;
 
-pub const READER: usize = MAKER + Board::MAX_FILES;
+const READER: usize = MAKER + Board::MAX_FILES;
 
-pub const SIZE: usize = READER + Board::MAX_FILES;
+const SIZE: usize = READER + Board::MAX_FILES;
 
-pub const MOVE_TIME: usize = SIZE + Board::MAX_FILES;
+const MOVE_TIME: usize = SIZE + Board::MAX_FILES;
 
 // A schedule array: processor (0 if not placed) and start of each task; then the move start of each file.
 pub const SCHEDULE: usize = 2 * Board::MAX_TASKS + Board::MAX_FILES;
 
-pub const START: usize = Board::MAX_TASKS;
+const START: usize = Board::MAX_TASKS;
 
-pub const MOVE_START: usize = START + Board::MAX_TASKS;
+const MOVE_START: usize = START + Board::MAX_TASKS;
 
 // The last finish of each processor, blue ones first.
 pub const LAST: usize = 2 * (Board::MAX_PROCESSORS as usize);
@@ -59,6 +61,26 @@ pub fn reader(job: &[u64; JOB], k: usize) -> u64
     ensures { λ r. ⌜ r ≡ jobOf (now (job .entry)) .reader k ⌝ }
 {
     job[READER + k]
+}
+
+// The task that makes file k of an instance in its bounds: it exists.
+pub fn making_task(shape: Shape, job: &[u64; JOB], k: usize) -> u64
+    requires { ⌜ JobInBounds shape (now job) ⌝ }
+    requires { ⌜ k < shape .files ⌝ }
+    ensures { λ r. ⌜ r ≡ jobOf (now (job .entry)) .maker k ⌝ }
+    ensures { λ r. ⌜ r < shape .tasks ⌝ }
+{
+    maker(job, k)
+}
+
+// The task that reads file k, likewise.
+pub fn reading_task(shape: Shape, job: &[u64; JOB], k: usize) -> u64
+    requires { ⌜ JobInBounds shape (now job) ⌝ }
+    requires { ⌜ k < shape .files ⌝ }
+    ensures { λ r. ⌜ r ≡ jobOf (now (job .entry)) .reader k ⌝ }
+    ensures { λ r. ⌜ r < shape .tasks ⌝ }
+{
+    reader(job, k)
 }
 
 pub fn size(job: &[u64; JOB], k: usize) -> u64
@@ -102,4 +124,58 @@ pub fn on_blue(shape: Shape, schedule: &[u64; SCHEDULE], i: usize) -> bool
     ensures { λ r. ⌜ r ≡ leb (entriesOf (now (schedule .entry)) .processor i) (shape .board .blue .processors) ⌝ }
 {
     processor(schedule, i) <= shape.board.blue.processors
+}
+
+// Stores a number. Lent as a slice, an array shows how long it is.
+fn store(array: &mut [u64], at: usize, number: u64)
+    requires { ⌜ at < length (now array) ⌝ }
+    ensures { λ _. ⌜ now (array .exit) ≡ set (now (array .entry)) at number ⌝ }
+{
+    array[at] = number;
+}
+
+// Stores two numbers.
+fn store_two(array: &mut [u64], p: usize, a: u64, q: usize, b: u64)
+    requires { ⌜ (p < length (now array)) × (q < length (now array)) ⌝ }
+    ensures { λ _. ⌜ now (array .exit) ≡ set (set (now (array .entry)) p a) q b ⌝ }
+{
+    array[p] = a;
+    array[q] = b;
+}
+
+// Writes the run times of task i.
+pub fn set_task(job: &mut [u64; JOB], i: usize, blue: u64, red: u64)
+    requires { ⌜ i < maxTasks ⌝ }
+    ensures { λ _. ⌜ now (job .exit) ≡ withTaskAt (now (job .entry)) i blue red ⌝ }
+    ensures { λ _. ⌜ (length (now (job .entry)) ≡ jobLength) × (length (now (job .exit)) ≡ jobLength) ⌝ }
+{
+    store_two(job, i, blue, ON_RED + i, red);
+}
+
+// Writes the four numbers of file k.
+pub fn set_file(job: &mut [u64; JOB], k: usize, maker: u64, reader: u64, size: u64, time: u64)
+    requires { ⌜ k < maxFiles ⌝ }
+    ensures { λ _. ⌜ now (job .exit) ≡ withFileAt (now (job .entry)) k maker reader size time ⌝ }
+    ensures { λ _. ⌜ (length (now (job .entry)) ≡ jobLength) × (length (now (job .exit)) ≡ jobLength) ⌝ }
+{
+    store_two(job, MAKER + k, maker, READER + k, reader);
+    store_two(job, SIZE + k, size, MOVE_TIME + k, time);
+}
+
+// Writes the run of task i.
+pub fn set_run(schedule: &mut [u64; SCHEDULE], i: usize, processor: u64, start: u64)
+    requires { ⌜ i < maxTasks ⌝ }
+    ensures { λ _. ⌜ now (schedule .exit) ≡ withRunAt (now (schedule .entry)) i processor start ⌝ }
+    ensures { λ _. ⌜ (length (now (schedule .entry)) ≡ scheduleLength) × (length (now (schedule .exit)) ≡ scheduleLength) ⌝ }
+{
+    store_two(schedule, i, processor, START + i, start);
+}
+
+// Writes the move start of file k.
+pub fn set_move_start(schedule: &mut [u64; SCHEDULE], k: usize, start: u64)
+    requires { ⌜ k < maxFiles ⌝ }
+    ensures { λ _. ⌜ now (schedule .exit) ≡ withMoveAt (now (schedule .entry)) k start ⌝ }
+    ensures { λ _. ⌜ (length (now (schedule .entry)) ≡ scheduleLength) × (length (now (schedule .exit)) ≡ scheduleLength) ⌝ }
+{
+    store(schedule, MOVE_START + k, start);
 }

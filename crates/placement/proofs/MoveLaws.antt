@@ -1,20 +1,20 @@
 -- The moves of the files that a task reads, as it is placed.
-use Prim.Native.Nat.{ℕ, _+_, _-_, _*_, _≤_, _<_}
+use Prim.Native.Nat.{ℕ, _+_, _-_, _≤_, _<_}
 use mathlib.Core.Bool.{Bool, cond}
 use mathlib.Core.List.{List}
 use mathlib.Core.Path.{_≡_, refl, sym, ap, _∙_}
 use native.Mathlib.Omega.{arith}
 use native.Mathlib.Decide.{ℕ-discrete}
-use lib.ListN.{length, getD, set, length-set}
-use lib.Seq.{getD-set-same, getD-set-other}
+use lib.ListN.{length}
 use Rattle.rules.specs.Count.{listBelow}
-use Rattle.rules.specs.Limits.{maxTasks}
+use Rattle.rules.specs.Limits.{maxTasks, maxFiles}
 use Rattle.rules.specs.Model.{Instance, Schedule, Colour, runAt, moveAt, fileAt, fileCount}
 use Rattle.rules.specs.Scheduling.{crossing, moveWith}
 use Rattle.rules.proofs.CountLaws.{list-cong}
 use Rattle.model.specs.declared.layout.Shape.{Shape}
-use Rattle.model.specs.Layout.{Job, Entries, entriesOf, instanceFrom, scheduleFrom, JobBounds, scheduleLength}
+use Rattle.model.specs.Layout.{Job, Entries, entriesOf, runFrom, instanceFrom, scheduleFrom, scheduleOf, JobBounds, scheduleLength, withMoveAt}
 use Rattle.model.proofs.LayoutLaws.{file-count, maker-at, move-time-at, run-at, move-at}
+use Rattle.model.proofs.WriteLaws.{move-here, move-other, move-runs}
 
 module _ {b : Shape} {J : Job} (f : JobBounds b J) (L : Entries) {k : ℕ} (h : k < b .files) where
   abbrev I : Instance
@@ -35,12 +35,12 @@ module _ {b : Shape} {J : Job} (f : JobBounds b J) (xs : List ℕ) (i : ℕ) (c 
 
   -- when a file moves, by the schedule xs
   abbrev pub moveBy : ℕ → ℕ
-  moveBy = moveWith inst (scheduleFrom b (entriesOf xs)) i c start
+  moveBy = moveWith inst (scheduleOf b xs) i c start
 
   -- ys is the schedule xs with the move starts of the first k files set
   pub record MovesTo (ys : List ℕ) (k : ℕ) : Type 0 where
     pub size : length ys ≡ scheduleLength
-    pub runs : (j : ℕ) → j < 2 * maxTasks → getD ys j 0 ≡ getD xs j 0
+    pub runs : (j : ℕ) → j < maxTasks → runFrom (entriesOf ys) j ≡ runFrom (entriesOf xs) j
     pub done : (j : ℕ) → j < k → entriesOf ys .moveStart j ≡ moveBy j
     pub rest : (j : ℕ) → k ≤ j → entriesOf ys .moveStart j ≡ entriesOf xs .moveStart j
 
@@ -54,29 +54,31 @@ module _ {b : Shape} {J : Job} (f : JobBounds b J) (xs : List ℕ) (i : ℕ) (c 
 
   module _ {ys : List ℕ} {k : ℕ} (h : k < b .files) (m : MovesTo ys k) where
     -- the runs are those of xs, so the same files cross
-    same-run : (j : ℕ) → j < b .tasks → runAt (scheduleFrom b (entriesOf ys)) j ≡ runAt (scheduleFrom b (entriesOf xs)) j
-    same-run j l =
-        let p : getD ys j 0 ≡ getD xs j 0 = m .runs j (omega (arith, f .tasks)) in
-        let q : getD ys (maxTasks + j) 0 ≡ getD xs (maxTasks + j) 0 = m .runs (maxTasks + j) (omega (arith, f .tasks)) in
-        run-at b (entriesOf ys) j l ∙ rw (p, q) (sym (run-at b (entriesOf xs) j l))
+    same-run : (j : ℕ) → j < b .tasks → runAt (scheduleOf b ys) j ≡ runAt (scheduleOf b xs) j
+    same-run j l = run-at b (entriesOf ys) j l ∙ m .runs j (omega (arith, f .tasks)) ∙ sym (run-at b (entriesOf xs) j l)
 
-    same-move : moveWith inst (scheduleFrom b (entriesOf ys)) i c start k ≡ moveBy k
+    same-move : moveWith inst (scheduleOf b ys) i c start k ≡ moveBy k
     same-move =
-        let r : runAt (scheduleFrom b (entriesOf ys)) (fileAt inst k .maker) ≡ runAt (scheduleFrom b (entriesOf xs)) (fileAt inst k .maker) = same-run (fileAt inst k .maker) (omega (arith, maker-at b J k h, f .maker k h)) in
-        let u : moveAt (scheduleFrom b (entriesOf ys)) k ≡ moveAt (scheduleFrom b (entriesOf xs)) k = move-at b (entriesOf ys) k h ∙ m .rest k (omega arith) ∙ sym (move-at b (entriesOf xs) k h) in
+        let from : ℕ = fileAt inst k .maker in
+        let r : runAt (scheduleOf b ys) from ≡ runAt (scheduleOf b xs) from = same-run from (omega (arith, maker-at b J k h, f .maker k h)) in
+        let u : moveAt (scheduleOf b ys) k ≡ moveAt (scheduleOf b xs) k =
+        move-at b (entriesOf ys) k h ∙ m .rest k (omega arith) ∙ sym (move-at b (entriesOf xs) k h) in
         rw (r, u)
 
-    pub moves-turn : {t : ℕ} → t ≡ moveWith inst (scheduleFrom b (entriesOf ys)) i c start k → MovesTo (set ys (2 * maxTasks + k) t) (k + 1)
-    moves-turn {t} e =
-        let at : ℕ = 2 * maxTasks + k in record {
-          size = length-set ys at t ∙ m .size;
-          runs = λ j l. getD-set-other ys at j t 0 (λ z. omega arith) ∙ m .runs j l;
-          done = λ j l. elim (ℕ-discrete j k) [
-            | yes d ↦ rw d (getD-set-same ys at t 0 (omega (arith, f .files, m .size)) ∙ e ∙ same-move)
-            | no d ↦ getD-set-other ys at (2 * maxTasks + j) t 0 (λ z. d (omega arith)) ∙ m .done j (omega arith)
+    pub moves-turn : {t : ℕ} {zs : List ℕ} → t ≡ moveWith inst (scheduleOf b ys) i c start k → zs ≡ withMoveAt ys k t → length zs ≡ scheduleLength
+        → MovesTo zs (k + 1)
+    moves-turn {t} e w long =
+        let l : k < maxFiles = omega (arith, f .files) in
+        rw w
+        (record {
+          size = rw w at long;
+          runs = λ j n. move-runs ys l t j n ∙ m .runs j n;
+          done = λ j n. elim (ℕ-discrete j k) [
+            | yes d ↦ rw d (move-here ys l t (m .size) ∙ e ∙ same-move)
+            | no d ↦ move-other ys l t j d ∙ m .done j (omega arith)
           ];
-          rest = λ j l. getD-set-other ys at (2 * maxTasks + j) t 0 (λ z. omega arith) ∙ m .rest j (omega arith);
-        }
+          rest = λ j n. move-other ys l t j (omega arith) ∙ m .rest j (omega arith);
+        })
 
   pub moves-total : {ys : List ℕ} {n : ℕ} → n ≡ b .files → MovesTo ys n → listBelow (b .files) (entriesOf ys .moveStart) ≡ listBelow (fileCount inst) moveBy
   moves-total e m = list-cong (b .files) _ _ (λ k l. m .done k (omega arith)) ∙ ap (λ n. listBelow n moveBy) (sym (file-count b J))

@@ -5,7 +5,7 @@ use mathlib.Core.List.{List}
 use mathlib.Core.Path.{_≡_, sym, ap, _∙_}
 use native.Mathlib.Numerals.{add-one}
 use native.Mathlib.Omega.{arith}
-use lib.ListN.{length, getD, set, replicate, length-set}
+use lib.ListN.{length, getD, set, replicate}
 use lib.Seq.{getD-set-same, getD-set-other}
 use Rattle.rules.specs.Count.{listBelow}
 use Rattle.rules.specs.Limits.{maxTasks}
@@ -13,39 +13,11 @@ use Rattle.rules.specs.Model.{Instance, Run, unplaced, processorCount, fileCoun
 use Rattle.rules.specs.Scheduling.{Partial, slotOf, chosenProcessor, moveWith, assign, empty, finishOn}
 use Rattle.rules.proofs.CountLaws.{list-cong, list-set, list-same, getD-same}
 use Rattle.model.specs.declared.layout.Shape.{Shape}
-use Rattle.model.specs.Layout.{Job, entriesOf, runFrom, instanceFrom, scheduleFrom, partialFrom, colourBy, countIn, JobBounds, scheduleLength, lastLength}
+use Rattle.model.specs.Layout.{Job, entriesOf, runFrom, instanceFrom, scheduleFrom, scheduleOf, partialFrom, colourBy, countIn, JobBounds, scheduleLength, lastLength, withRunAt}
 use Rattle.model.proofs.LayoutLaws.{file-count, task-count, finish-on-at, processors-of}
+use Rattle.model.proofs.WriteLaws.{run-here, run-other, run-moves}
 use Rattle.placement.specs.Slots.{slotIn}
 use Rattle.placement.proofs.SlotLaws.{slot-at, slot-exists}
-
--- ---- a run written
-
--- the schedule array xs with a run of task i
-abbrev pub withRun : List ℕ → ℕ → ℕ → ℕ → List ℕ
-withRun xs i p s = set (set xs i p) (maxTasks + i) s
-
-pub run-length : (xs : List ℕ) (i p s : ℕ) {ys : List ℕ} → ys ≡ withRun xs i p s → length xs ≡ scheduleLength → length ys ≡ scheduleLength
-run-length xs i p s e size = rw e (length-set (set xs i p) (maxTasks + i) s ∙ length-set xs i p ∙ size)
-
-module _ (xs : List ℕ) (i p s : ℕ) (h : i < maxTasks) where
-  run-here : length xs ≡ scheduleLength → runFrom (entriesOf (withRun xs i p s)) i ≡ record { processor = p; start = s }
-  run-here e = rw (
-    getD-set-other (set xs i p) (maxTasks + i) i s 0 (λ z. omega arith),
-    getD-set-same xs i p 0 (omega arith),
-    getD-set-same (set xs i p) (maxTasks + i) s 0 (omega (arith, length-set xs i p)),
-  )
-
-  run-other : (j : ℕ) → j < maxTasks → (j ≡ i → ⊥) → runFrom (entriesOf (withRun xs i p s)) j ≡ runFrom (entriesOf xs) j
-  run-other j l d = rw (
-    getD-set-other (set xs i p) (maxTasks + i) j s 0 (λ z. omega arith),
-    getD-set-other xs i j p 0 d,
-    getD-set-other (set xs i p) (maxTasks + i) (maxTasks + j) s 0 (λ z. d (omega arith)),
-    getD-set-other xs i (maxTasks + j) p 0 (λ z. omega arith),
-  )
-
-  run-moves : (k : ℕ) → entriesOf (withRun xs i p s) .moveStart k ≡ entriesOf xs .moveStart k
-  run-moves k =
-      getD-set-other (set xs i p) (maxTasks + i) (2 * maxTasks + k) s 0 (λ z. omega arith) ∙ getD-set-other xs i (2 * maxTasks + k) p 0 (λ z. omega arith)
 
 -- ---- the whole
 
@@ -60,12 +32,12 @@ module _ {b : Shape} {J : Job} (f : JobBounds b J) (xs last : List ℕ) (x : Boo
   abbrev Q : Partial
   Q = partialFrom b (entriesOf xs) last
 
-  module _ (ys : List ℕ) (size : length ys ≡ scheduleLength) (same : (j : ℕ) → j < 2 * maxTasks → getD ys j 0 ≡ getD xs j 0) (p : ℕ) where
-    ys-run : (j : ℕ) → j < maxTasks → runFrom (entriesOf ys) j ≡ runFrom (entriesOf xs) j
-    ys-run j l = rw (same j (omega arith), same (maxTasks + j) (omega arith))
-
-    module _ {slot time : ℕ} (known : length last ≡ lastLength) (moves : listBelow (b .files) (entriesOf ys .moveStart) ≡ listBelow (fileCount I) (moveWith I (scheduleFrom b (entriesOf xs)) i (colourBy x) s))
-        (chosen : p ≡ chosenProcessor I Q (colourBy x) s) (exists : p < countIn b x) (here : slot ≡ slotIn b x p) (takes : time ≡ cond x (J .onBlue i) (J .onRed i)) where
+  module _ (ys : List ℕ) (size : length ys ≡ scheduleLength)
+      (same : (j : ℕ) → j < maxTasks → runFrom (entriesOf ys) j ≡ runFrom (entriesOf xs) j) (p : ℕ) where
+    module _ {slot time : ℕ} (known : length last ≡ lastLength)
+        (moves : listBelow (b .files) (entriesOf ys .moveStart) ≡ listBelow (fileCount I) (moveWith I (scheduleOf b xs) i (colourBy x) s))
+        (chosen : p ≡ chosenProcessor I Q (colourBy x) s) (exists : p < countIn b x)
+        (here : slot ≡ slotIn b x p) (takes : time ≡ cond x (J .onBlue i) (J .onRed i)) where
       l : i < maxTasks
       l = omega (arith, f .tasks)
 
@@ -76,11 +48,12 @@ module _ {b : Shape} {J : Job} (f : JobBounds b J) (xs last : List ℕ) (x : Boo
       finish : s + time ≡ finishOn I i (colourBy x) s
       finish = finish-on-at b J inside x s takes
 
-      runs-placed : listBelow (b .tasks) (runFrom (entriesOf (withRun ys i (slot + 1) s))) ≡ set (listBelow (b .tasks) (runFrom (entriesOf xs))) i (record { processor = suc slot; start = s })
+      runs-placed : listBelow (b .tasks) (runFrom (entriesOf (withRunAt ys i (slot + 1) s)))
+          ≡ set (listBelow (b .tasks) (runFrom (entriesOf xs))) i (record { processor = suc slot; start = s })
       runs-placed =
-          list-set (b .tasks) (runFrom (entriesOf xs)) (runFrom (entriesOf (withRun ys i (slot + 1) s))) i _ inside
-          (run-here ys i (slot + 1) s l size ∙ rw (add-one slot))
-          (λ j h d. run-other ys i (slot + 1) s l j (omega (arith, f .tasks)) d ∙ ys-run j (omega (arith, f .tasks)))
+          list-set (b .tasks) (runFrom (entriesOf xs)) (runFrom (entriesOf (withRunAt ys i (slot + 1) s))) i _ inside
+          (run-here ys l (slot + 1) s size ∙ rw (add-one slot))
+          (λ j h d. run-other ys l (slot + 1) s j (omega (arith, f .tasks)) d ∙ same j (omega (arith, f .tasks)))
 
       last-placed : listBelow (b .board .blue .processors + b .board .red .processors) (λ q. getD (set last slot (s + time)) q 0)
           ≡ set (listBelow (b .board .blue .processors + b .board .red .processors) (λ q. getD last q 0)) slot (s + time)
@@ -90,9 +63,9 @@ module _ {b : Shape} {J : Job} (f : JobBounds b J) (xs last : List ℕ) (x : Boo
           (getD-set-same last slot (s + time) 0 (omega (arith, f .processors .blue .most, f .processors .red .most)))
           (λ q h d. getD-set-other last slot q (s + time) 0 d)
 
-      pub placed : {zs : List ℕ} → zs ≡ withRun ys i (slot + 1) s → partialFrom b (entriesOf zs) (set last slot (s + time)) ≡ assign I Q i (colourBy x) s
+      pub placed : {zs : List ℕ} → zs ≡ withRunAt ys i (slot + 1) s → partialFrom b (entriesOf zs) (set last slot (s + time)) ≡ assign I Q i (colourBy x) s
       unfolding assign scheduleFrom
-      placed e = rw (e, at, ← finish) (parts runs-placed (list-cong (b .files) _ _ (λ k h. run-moves ys i (slot + 1) s l k) ∙ moves) last-placed)
+      placed e = rw (e, at, ← finish) (parts runs-placed (list-cong (b .files) _ _ (λ k h. run-moves ys l (slot + 1) s k) ∙ moves) last-placed)
 
 -- ---- nothing placed: arrays of zeros
 

@@ -1,12 +1,12 @@
 // The moves of the files that a task reads, as it is placed.
 ghost use mathlib.Core.Path.{_≡_};
-ghost use Prim.Native.Nat.{ℕ, _-_, _*_, _<_};
-ghost use lib.ListN.{length, getD};
+ghost use Prim.Native.Nat.{ℕ, _-_, _<_};
+ghost use lib.ListN.{length};
 ghost use Rattle.rules.specs.Count.{listBelow};
 ghost use Rattle.rules.specs.Limits.{maxTasks};
 ghost use Rattle.rules.specs.Model.{fileCount};
 ghost use Rattle.rules.specs.Scheduling.{moveWith};
-ghost use Rattle.model.specs.Layout.{entriesOf, scheduleLength, instanceOf, scheduleOf, colourBy, JobInBounds};
+ghost use Rattle.model.specs.Layout.{entriesOf, runFrom, scheduleLength, instanceOf, scheduleOf, colourBy, JobInBounds};
 use model::choice::select;
 use model::crossing::crossing_file;
 use model::layout;
@@ -51,13 +51,15 @@ pub fn set_moves(
     requires { ⌜ JobInBounds shape (now job) ⌝ }
     requires { ⌜ length (now schedule) ≡ scheduleLength ⌝ }
     ensures { λ r. ⌜ length (now (schedule .exit)) ≡ scheduleLength ⌝ }
-    ensures { λ r. ⌜ ((j : ℕ) → j < 2 * maxTasks → getD (now (schedule .exit)) j 0 ≡ getD (now (schedule .entry)) j 0) ⌝ }
-    ensures { λ r. ⌜ listBelow (shape .files) (entriesOf (now (schedule .exit)) .moveStart) ≡ listBelow (fileCount (instanceOf shape (now (job .entry)))) (moveWith (instanceOf shape (now (job .entry))) (scheduleOf shape (now (schedule .entry))) i (colourBy colour) start) ⌝ }
+    ensures { λ r. ⌜ ((j : ℕ) → j < maxTasks → runFrom (entriesOf (now (schedule .exit))) j ≡ runFrom (entriesOf (now (schedule .entry))) j) ⌝ }
+    ensures { λ r. ⌜ listBelow (shape .files) (entriesOf (now (schedule .exit)) .moveStart) ≡
+        listBelow (fileCount (instanceOf shape (now (job .entry))))
+        (moveWith (instanceOf shape (now (job .entry))) (scheduleOf shape (now (schedule .entry))) i (colourBy colour) start) ⌝ }
 {
     let mut k: usize = 0;
     while k < shape.files {
         let t = move_with(shape, job, schedule, i, colour, start, k);
-        schedule[layout::MOVE_START + k] = t;
+        layout::set_move_start(schedule, k, t);
         k += 1;
     }
 }

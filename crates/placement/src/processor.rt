@@ -50,7 +50,8 @@ fn last_in(shape: Shape, last: &[u64; layout::LAST], colour: bool, p: usize) -> 
 // The latest last finish of the colour's processors that are free by the start; 0 if there are none.
 fn latest_in(shape: Shape, last: &[u64; layout::LAST], colour: bool, start: u64) -> u64
     requires { ⌜ Processors shape ⌝ }
-    ensures { λ r. ⌜ r ≡ maxWhere (countIn shape colour) (λ p. leb (lastIn shape (now (last .entry)) colour p) start) (lastIn shape (now (last .entry)) colour) ⌝ }
+    ensures { λ r. ⌜ r ≡
+        maxWhere (countIn shape colour) (λ p. leb (lastIn shape (now (last .entry)) colour p) start) (lastIn shape (now (last .entry)) colour) ⌝ }
 {
     let n = count_in(shape, colour);
     let mut most: u64 = 0;
@@ -76,7 +77,8 @@ fn is_latest_free(finish: u64, start: u64, latest: u64) -> bool
 // The processor chosen, counted from 0 within the colour; their number if none is free by the start.
 pub fn chosen_processor(shape: Shape, last: &[u64; layout::LAST], colour: bool, start: u64) -> u64
     requires { ⌜ Processors shape ⌝ }
-    ensures { λ r. ⌜ ((J : Job) (L : Entries) → r ≡ chosenProcessor (instanceFrom shape J) (partialFrom shape L (now (last .entry))) (colourBy colour) start) ⌝ }
+    ensures { λ r. ⌜ ((J : Job) (L : Entries) → r ≡
+        chosenProcessor (instanceFrom shape J) (partialFrom shape L (now (last .entry))) (colourBy colour) start) ⌝ }
 {
     let n = count_in(shape, colour);
     let latest = latest_in(shape, last, colour, start);

@@ -1,8 +1,7 @@
 // One task placed.
 ghost use mathlib.Core.Path.{_≡_};
-ghost use Prim.Native.Nat.{_+_, _<_, _≤_};
-ghost use lib.ListN.{length, set};
-ghost use Rattle.rules.specs.Limits.{maxTasks};
+ghost use Prim.Native.Nat.{_<_, _≤_};
+ghost use lib.ListN.{length};
 ghost use Rattle.rules.specs.Scheduling.{processorStart, assign};
 ghost use Rattle.model.specs.Layout.{scheduleLength, lastLength, instanceOf, partialOf, colourBy, JobInBounds, lastStart};
 use super::moves::set_moves;
@@ -10,15 +9,6 @@ use super::processor::chosen_processor;
 use super::processor::slot_in;
 use model::layout;
 use model::layout::Shape;
-
-// The run of task i.
-fn set_run(schedule: &mut [u64; layout::SCHEDULE], i: usize, processor: u64, start: u64)
-    requires { ⌜ i < maxTasks ⌝ }
-    ensures { λ r. ⌜ now (schedule .exit) ≡ set (set (now (schedule .entry)) i processor) (maxTasks + i) start ⌝ }
-{
-    schedule[i] = processor;
-    schedule[layout::START + i] = start;
-}
 
 // Task i placed on the colour at the start: the moves, the run and the last finish of its processor.
 pub fn place(
@@ -35,12 +25,13 @@ pub fn place(
     requires { ⌜ (i < shape .tasks) × (start ≤ lastStart) ⌝ }
     requires { ⌜ processorStart (instanceOf shape (now job)) (partialOf shape (now schedule) (now last)) (colourBy colour) ≤ start ⌝ }
     ensures { λ r. ⌜ (length (now (schedule .exit)) ≡ scheduleLength) × (length (now (last .exit)) ≡ lastLength) ⌝ }
-    ensures { λ r. ⌜ partialOf shape (now (schedule .exit)) (now (last .exit)) ≡ assign (instanceOf shape (now (job .entry))) (partialOf shape (now (schedule .entry)) (now (last .entry))) i (colourBy colour) start ⌝ }
+    ensures { λ r. ⌜ partialOf shape (now (schedule .exit)) (now (last .exit)) ≡
+        assign (instanceOf shape (now (job .entry))) (partialOf shape (now (schedule .entry)) (now (last .entry))) i (colourBy colour) start ⌝ }
 {
     set_moves(shape, job, schedule, i, colour, start);
     let p = chosen_processor(shape, last, colour, start) as usize;
     let slot = slot_in(shape, colour, p);
-    set_run(schedule, i, slot as u64 + 1, start);
+    layout::set_run(schedule, i, slot as u64 + 1, start);
     let finish = start + layout::run_time(job, i, colour);
     last[slot] = finish;
 }

@@ -1,17 +1,17 @@
 -- The laws that the proofs of this crate, and of those above it, cite.
 
--- one line
+-- one line, and the line that starts at a place of a text
 pub mod LineLaws
-pub mod CutLaws
+pub mod LineAtLaws
 -- the due lines
 pub mod DueLaws
--- what the schedule holds
+-- the schedule read so far, with one line more
 pub mod StoreLaws
 -- the loops
 pub mod ReadLoops
 pub mod CrossingLaws
 pub mod ReadLaws
--- the pieces of the text, its length and its bytes
-pub mod PieceLaws
+-- the text by its lines, its length and its bytes
+pub mod TextLaws
 pub mod SizeLaws
 pub mod LaidLaws

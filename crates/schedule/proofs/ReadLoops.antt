@@ -1,5 +1,5 @@
 -- Where the reader stands, step by step: what is left to be read is the whole answer.
-use Prim.Native.Nat.{ℕ, suc, _+_, _-_, _*_, _≤_, _<_}
+use Prim.Native.Nat.{ℕ, suc, _+_, _-_, _≤_, _<_}
 use mathlib.Core.Path.{_≡_, refl, sym, ap, ap₂, subst, _∙_}
 use mathlib.Core.Bool.{true, false}
 use mathlib.Core.List.{List, [], _∷_}
@@ -11,9 +11,9 @@ use borrow.Author.Tests.{eq-eqb, ne-eqb}
 use types.Run.{OneOf}
 use denote.Enum.Declared.{tagOf}
 use lib.Dec.{eqb}
-use lib.ListN.{length, drop, set, length-drop, drop-of-length-le}
+use lib.ListN.{length, drop, length-drop, drop-of-length-le}
 use Rattle.rules.specs.Count.{listBelow}
-use Rattle.rules.specs.Limits.{maxTasks, maxFiles}
+use Rattle.rules.specs.Limits.{maxTasks}
 use Rattle.rules.specs.Model.{Instance, Schedule, taskCount, fileCount, moved}
 use Rattle.rules.specs.Text.{Fault, undue, Line, linesOf, Reading, wrong, right, due, faultOf}
 use Rattle.rules.specs.Validity.{Claim}
@@ -23,7 +23,7 @@ use Rattle.text.specs.declared.faults.Fault.{Fault as CodeFault}
 use Rattle.text.specs.Faults.{asFault}
 use Rattle.text.proofs.FirstLineLaws.{no-line}
 use Rattle.model.specs.declared.layout.Shape.{Shape}
-use Rattle.model.specs.Layout.{Job, Entries, entriesOf, instanceFrom, scheduleFrom, JobBounds}
+use Rattle.model.specs.Layout.{Job, Entries, entriesOf, instanceFrom, scheduleFrom, JobBounds, scheduleLength, withRunAt, withMoveAt}
 use Rattle.model.proofs.LayoutLaws.{task-count, file-count, maker-at, reader-at}
 use Rattle.schedule.proofs.lines.Line.{the-type}
 use Rattle.model.specs.declared.claim.Claim.{Claim as Numbers}
@@ -112,18 +112,18 @@ module _ {b : Shape} {bs schedule : List ℕ} {at i : ℕ} (q : RunsRead b bs sc
       run-due : j ≡ i + 1 → due (runOf (suc i)) (asReading said) ≡ right (record { processor = p; start = s })
       run-due z = let m : eqb j (suc i) ≡ true = eq-eqb j (suc i) (z ∙ add-one i) in rw (e, m)
 
-      run-on : j ≡ i + 1 → b .tasks ≤ maxTasks → length schedule ≡ 2 * maxTasks + maxFiles
+      run-on : j ≡ i + 1 → b .tasks ≤ maxTasks → length schedule ≡ scheduleLength
           → readRuns I (taskCount I) nothing 1 (linesOf bs)
-          ≡ readRuns I (taskCount I - suc i) (runsOf (suc i) (entriesOf (set (set schedule i p) (maxTasks + i) s))) (suc (suc i)) (linesOf (drop next bs))
+          ≡ readRuns I (taskCount I - suc i) (runsOf (suc i) (entriesOf (withRunAt schedule i p s))) (suc (suc i)) (linesOf (drop next bs))
       run-on z few long =
           q .left J ∙ run-taken o (runsOf i (entriesOf schedule)) (suc i) i in-tasks _ (run-due z)
-          ∙ ap (λ P. readRuns I (taskCount I - suc i) P (suc (suc i)) (linesOf (drop next bs))) (sym (run-stored schedule long i p s (omega arith)))
+          ∙ ap (λ P. readRuns I (taskCount I - suc i) P (suc (suc i)) (linesOf (drop next bs))) (sym (run-stored schedule long (omega arith) p s))
 
-  pub runs-next : i < b .tasks → b .tasks ≤ maxTasks → length schedule ≡ 2 * maxTasks + maxFiles → (said : Said) (next j p s : ℕ) → next ≤ length bs
+  pub runs-next : i < b .tasks → b .tasks ≤ maxTasks → length schedule ≡ scheduleLength → (said : Said) (next j p s : ℕ) → next ≤ length bs
       → ((J : Job) → LineAt (instanceFrom b J) bs at (asReading said) next) → said ≡ Code.Run j p s → j ≡ i + 1
-      → (once twice : List ℕ) → once ≡ set schedule i p → twice ≡ set once (maxTasks + i) s → RunsRead b bs twice next (i + 1)
-  runs-next h few long said next j p s n o e z once twice u v =
-      rw (add-one i, v, u)
+      → (new : List ℕ) → new ≡ withRunAt schedule i p s → RunsRead b bs new next (i + 1)
+  runs-next h few long said next j p s n o e z new stored =
+      rw (add-one i, stored)
       (record {
         passed = h;
         within = n;
@@ -218,8 +218,8 @@ module _ {b : Shape} {J : Job} {bs old schedule : List ℕ} {from line at k i : 
           let (next, d) = subst Here e t in
           sym (q .left ∙ move-refused (d .read) soFar k i in-files m (asFault w) (ap (λ f. due f (d .line)) (sym (file-due maker reader u v)) ∙ d .due))
 
-      pub moves-next : (r : MoveRead) → Here r → (t next : ℕ) → r ≡ Move.Start t next → JobBounds b J → length schedule ≡ 2 * maxTasks + maxFiles
-          → (new : List ℕ) → new ≡ set schedule (2 * maxTasks + i) t → MovesRead b J bs old new from line next (k + 1) (i + 1)
+      pub moves-next : (r : MoveRead) → Here r → (t next : ℕ) → r ≡ Move.Start t next → JobBounds b J → length schedule ≡ scheduleLength
+          → (new : List ℕ) → new ≡ withMoveAt schedule i t → MovesRead b J bs old new from line next (k + 1) (i + 1)
       moves-next r o t next e bounds long new stored =
           let (d, n) = subst Here e o in
           rw (add-one i, add-one k, stored)
@@ -229,10 +229,10 @@ module _ {b : Shape} {J : Job} {bs old schedule : List ℕ} {from line at k i : 
             few = omega (arith, q .few);
             left =
                 q .left ∙ move-taken (d .read) soFar k i in-files m t (ap (λ f. due f (d .line)) (sym (file-due maker reader u v)) ∙ d .due)
-                ∙ ap (λ P. readMoves JI (fileCount JI - suc i) P (suc k) (linesOf (drop next bs))) (sym (move-stored schedule long i t (omega (arith, bounds .files)) (b .tasks) (bounds .tasks)));
+                ∙ ap (λ P. readMoves JI (fileCount JI - suc i) P (suc k) (linesOf (drop next bs))) (sym (move-stored schedule long (omega (arith, bounds .files)) t (b .tasks) (bounds .tasks)));
           })
 
-    pub moves-skip : moved JI soFar i ≡ false → JobBounds b J → length schedule ≡ 2 * maxTasks + maxFiles → (new : List ℕ) → new ≡ set schedule (2 * maxTasks + i) 0
+    pub moves-skip : moved JI soFar i ≡ false → JobBounds b J → length schedule ≡ scheduleLength → (new : List ℕ) → new ≡ withMoveAt schedule i 0
         → MovesRead b J bs old new from line at k (i + 1)
     moves-skip m bounds long new stored =
         rw (add-one i, stored)
@@ -242,5 +242,5 @@ module _ {b : Shape} {J : Job} {bs old schedule : List ℕ} {from line at k i : 
           few = omega (arith, q .few);
           left =
               q .left ∙ move-passed JI soFar k i in-files m (linesOf (drop at bs))
-              ∙ ap (λ P. readMoves JI (fileCount JI - suc i) P k (linesOf (drop at bs))) (sym (move-stored schedule long i 0 (omega (arith, bounds .files)) (b .tasks) (bounds .tasks)));
+              ∙ ap (λ P. readMoves JI (fileCount JI - suc i) P k (linesOf (drop at bs))) (sym (move-stored schedule long (omega (arith, bounds .files)) 0 (b .tasks) (bounds .tasks)));
         })

@@ -1,7 +1,7 @@
 // Reads a timetable: its due lines, one after the other.
 ghost use mathlib.Core.Path.{_≡_};
 ghost use Prim.Native.Nat.{suc, _+_, _<_, _≤_};
-ghost use lib.ListN.{length, drop, set};
+ghost use lib.ListN.{length, drop};
 ghost use Rattle.rules.specs.Limits.{maxTasks, maxFiles};
 ghost use Rattle.rules.specs.Model.{Schedule, taskCount, fileCount};
 ghost use Rattle.rules.specs.Text.{linesOf};
@@ -64,19 +64,14 @@ fn line_at(shape: Shape, paper: &[u8], at: usize) -> Cut
     }
 }
 
-// Stores a number in a schedule array. Lent as a slice, the array shows how long it is.
-fn store(schedule: &mut [u64], at: usize, number: u64)
-    requires { ⌜ at < length (now schedule) ⌝ }
-    ensures { λ _. ⌜ now (schedule .exit) ≡ set (now (schedule .entry)) at number ⌝ }
-{
-    schedule[at] = number;
-}
-
 // Reads the runs, a line for each task, into the schedule.
 fn read_runs(shape: Shape, paper: &[u8], schedule: &mut [u64; layout::SCHEDULE]) -> Progress
     requires { ⌜ Processors shape ⌝ }
     requires { ⌜ shape .tasks ≤ maxTasks ⌝ }
-    ensures { λ r. ⌜ ((J : Job) → goesOn (readMoves (instanceFrom shape J) (fileCount (instanceFrom shape J)) (runsOf (shape .tasks) (entriesOf (now (schedule .exit))))) (now (paper .entry)) r ≡ readRuns (instanceFrom shape J) (taskCount (instanceFrom shape J)) nothing 1 (linesOf (now (paper .entry)))) ⌝ }
+    ensures { λ r. ⌜ ((J : Job) →
+        goesOn (readMoves (instanceFrom shape J) (fileCount (instanceFrom shape J)) (runsOf (shape .tasks) (entriesOf (now (schedule .exit)))))
+        (now (paper .entry)) r ≡
+        readRuns (instanceFrom shape J) (taskCount (instanceFrom shape J)) nothing 1 (linesOf (now (paper .entry)))) ⌝ }
     ensures { λ r. ⌜ InText (now (paper .entry)) maxTasks r ⌝ }
 {
     let mut at = 0;
@@ -96,8 +91,7 @@ fn read_runs(shape: Shape, paper: &[u8], schedule: &mut [u64; layout::SCHEDULE])
         if task != k {
             return Progress::Refused(Fault::Undue, k);
         }
-        store(schedule, i, processor);
-        store(schedule, layout::START + i, start);
+        layout::set_run(schedule, i, processor, start);
         at = cut.next;
         i += 1;
     }
@@ -137,7 +131,9 @@ fn read_moves<'a>(
 ) -> Progress
     requires { ⌜ JobInBounds shape (now job) ⌝ }
     requires { ⌜ (from ≤ length (now paper)) × (line ≤ maxTasks + 1) ⌝ }
-    ensures { λ r. ⌜ goesOn (readClaim (instanceOf shape (now (job .entry))) (scheduleOf shape (now (schedule .exit)))) (now (paper .entry)) r ≡ readMoves (instanceOf shape (now (job .entry))) (fileCount (instanceOf shape (now (job .entry)))) (runsOf (shape .tasks) (entriesOf (now (schedule .entry)))) line (linesOf (drop from (now (paper .entry)))) ⌝ }
+    ensures { λ r. ⌜ goesOn (readClaim (instanceOf shape (now (job .entry))) (scheduleOf shape (now (schedule .exit)))) (now (paper .entry)) r ≡
+        readMoves (instanceOf shape (now (job .entry))) (fileCount (instanceOf shape (now (job .entry))))
+        (runsOf (shape .tasks) (entriesOf (now (schedule .entry)))) line (linesOf (drop from (now (paper .entry)))) ⌝ }
     ensures { λ r. ⌜ InText (now (paper .entry)) (maxTasks + maxFiles) r ⌝ }
 {
     let mut at = from;
@@ -145,19 +141,19 @@ fn read_moves<'a>(
     let mut i: usize = 0;
     while i < shape.files {
         if crossing::moves(shape, job, schedule, i) {
-            let maker = layout::maker(job, i);
-            let reader = layout::reader(job, i);
+            let maker = layout::making_task(shape, job, i);
+            let reader = layout::reading_task(shape, job, i);
             match move_at(shape, paper, at, maker, reader) {
                 MoveRead::Refused(fault) => return Progress::Refused(fault, k),
                 MoveRead::Start(start, next) => {
-                    store(schedule, layout::MOVE_START + i, start);
+                    layout::set_move_start(schedule, i, start);
                     at = next;
                     k += 1;
                     i += 1;
                 }
             }
         } else {
-            store(schedule, layout::MOVE_START + i, 0);
+            layout::set_move_start(schedule, i, 0);
             i += 1;
         }
     }

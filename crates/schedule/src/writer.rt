@@ -54,8 +54,8 @@ fn write_runs(shape: Shape, schedule: &[u64; layout::SCHEDULE], out: &mut [u8]) 
     while i < shape.tasks {
         let processor = layout::processor(schedule, i);
         let start = layout::start(schedule, i);
-        let n = write_run(&mut out[at..], (i + 1) as u64, processor, start);
-        at += n;
+        let written = write_run(&mut out[at..], (i + 1) as u64, processor, start);
+        at += written;
         i += 1;
     }
     at
@@ -70,14 +70,15 @@ fn write_moves<'a>(
 ) -> usize
     requires { ⌜ JobInBounds shape (now job) ⌝ }
     requires { ⌜ length (moveLines (instanceOf shape (now job)) (scheduleOf shape (now schedule)) (shape .files)) ≤ length (now out) ⌝ }
-    ensures { λ r. ⌜ Wrote (moveLines (instanceOf shape (now (job .entry))) (scheduleOf shape (now (schedule .entry))) (shape .files)) r (now (out .entry)) (now (out .exit)) ⌝ }
+    ensures { λ r. ⌜ Wrote (moveLines (instanceOf shape (now (job .entry))) (scheduleOf shape (now (schedule .entry))) (shape .files))
+        r (now (out .entry)) (now (out .exit)) ⌝ }
 {
     let mut at: usize = 0;
     let mut k: usize = 0;
     while k < shape.files {
         if crossing::moves(shape, job, schedule, k) {
-            let maker = layout::maker(job, k);
-            let reader = layout::reader(job, k);
+            let maker = layout::making_task(shape, job, k);
+            let reader = layout::reading_task(shape, job, k);
             let start = layout::move_start(schedule, k);
             let n = write_move(&mut out[at..], maker + 1, reader + 1, start);
             at += n;
@@ -99,7 +100,8 @@ pub fn write<'a>(
 ) -> usize
     requires { ⌜ JobInBounds shape (now job) ⌝ }
     requires { ⌜ length (scheduleText (instanceOf shape (now job)) (scheduleOf shape (now schedule)) (asClaim claim)) ≤ length (now out) ⌝ }
-    ensures { λ r. ⌜ Wrote (scheduleText (instanceOf shape (now (job .entry))) (scheduleOf shape (now (schedule .entry))) (asClaim claim)) r (now (out .entry)) (now (out .exit)) ⌝ }
+    ensures { λ r. ⌜ Wrote (scheduleText (instanceOf shape (now (job .entry))) (scheduleOf shape (now (schedule .entry))) (asClaim claim))
+        r (now (out .entry)) (now (out .exit)) ⌝ }
 {
     let runs_end = write_runs(shape, schedule, out);
     let moves = write_moves(shape, job, schedule, &mut out[runs_end..]);

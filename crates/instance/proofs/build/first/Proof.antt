@@ -15,10 +15,10 @@ fault-of-requires : tie.Need-fault-of-requires
 fault-of-requires c κs = search needs
 
 returns : tie.Need-returns
-returns c = ((λ xs. ap wrong (c .fault-of .ensures) ∙ no-board (c .before .before .args .line) (c .before .match .keys2)), (λ xs l. tt))
+returns c = ((λ xs. ap wrong (c .fault-of .ensures) ∙ no-board (c .before .before .args .line) (c .before .match .keys2)), tt)
 
 returns-2 : tie.Need-returns-2
-returns-2 c = ((λ xs. rw (c .before .line .given .1) (ap right (begun _ (jobOf xs)))), (λ xs l. record { tasks = omega arith; files = omega arith; long = l }))
+returns-2 c = ((λ xs. rw (c .before .line .given .1) (ap right (begun _ (jobOf xs)))), record { tasks = omega arith; files = omega arith })
 
 pub first-spec : {M : Type 1} → statement M
 first-spec = tie.close (tie.spec enum-known-line fault-of-requires returns returns-2)

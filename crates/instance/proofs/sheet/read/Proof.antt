@@ -1,13 +1,13 @@
 -- `instance::sheet::read` meets its contract: the first line is the board's, and the lines behind it are read by `rest_of`.
-use mathlib.Core.Path.{subst, refl, _∙_}
+use mathlib.Core.Path.{subst, _∙_}
 use mathlib.Core.List.{[]}
 use Prim.Native.Nat.{ℕ}
 use native.Mathlib.Omega.{arith}
 use denote.Ref.{now}
 use lib.ListN.{length-take, length-drop, replicate}
 use Rattle.rules.specs.InstanceText.{withBoard}
-use Rattle.instance.specs.declared.build.Step.{Step}
-use Rattle.instance.specs.Steps.{jobLength, RoomIn}
+use Rattle.model.specs.Layout.{jobLength}
+use Rattle.instance.specs.Steps.{RoomIn}
 use Rattle.instance.proofs.ReadLaws.{told, sheet-long, sheet-unended, first-short, sheet-refused, sheet-begun}
 use borrow.Author.Needs.{needs}
 use Rattle.instance.proofs.sheet.read.Statement.{statement}
@@ -54,9 +54,8 @@ part-rest-of-end c = search needs
 
 rest-of-requires : tie.Need-rest-of-requires
 rest-of-requires c κs =
-    let zs = replicate {A = ℕ} jobLength 0 in
     let a = c .before .before .before .before .before .before in
-    (subst (λ (s : Step). RoomIn s zs) (c .before .before .before .before .shape .given .1) (a .first .ensures .1 zs refl), simp (length-take, length-drop) (omega (arith, c .before .before .before .before .before .before .before .before .before .before .if1 .left)))
+    (subst RoomIn (c .before .before .before .before .shape .given .1) (a .first .ensures .1), simp (length-take, length-drop) (omega (arith, c .before .before .before .before .before .before .before .before .before .before .if1 .left)))
 
 returns-3 : tie.Need-returns-3
 returns-3 c =

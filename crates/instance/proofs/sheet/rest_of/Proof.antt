@@ -5,7 +5,6 @@ use denote.Ref.{now}
 use lib.ListN.{length, length-take, length-drop}
 use Rattle.rules.specs.InstanceText.{withLine}
 use Rattle.model.specs.Layout.{jobOf, instanceFrom}
-use Rattle.instance.specs.declared.build.Step.{Step}
 use Rattle.instance.specs.Steps.{RoomIn}
 use Rattle.instance.proofs.ReadLaws.{numbered, told, Reading, reading-start, reading-unended, line-short, reading-refused, reading-next, reading-absent, reading-done}
 use borrow.Author.Needs.{needs}
@@ -86,7 +85,7 @@ loop-again c =
     let n = c .before .before .next .given .1 in
     reading-next (l .loop .inv) (f .first-line .ensures) (p .before .before .if1 .left) _ ys
     (told (withLine I) (p .parse .result) (now (f .first-line .result)) (a .add .result) _ ys (p .parse .ensures) (a .add .ensures .0) n)
-    (subst (λ (s : Step). RoomIn s ys) n (a .add .ensures .1))
+    (subst RoomIn n (a .add .ensures .1))
 
 returns-3 : tie.Need-returns-3 Inv-loop μ-loop
 returns-3 c = reading-absent (c .before .before .before .loop .inv) (c .before .before .loop-test .left) (c .if2 .taken)

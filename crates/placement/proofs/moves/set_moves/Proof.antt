@@ -19,14 +19,8 @@ loop-holds c = (omega arith, λ f. moves-none f _ _ _ _ (c .pre .1))
 move-with-requires : tie.Need-move-with-requires Inv-loop μ-loop
 move-with-requires c κs = search needs
 
-add-schedule : tie.Need-add-schedule Inv-loop μ-loop
-add-schedule c = search needs
-
-mul-schedule : tie.Need-mul-schedule Inv-loop μ-loop
-mul-schedule c = search needs
-
-element-write-schedule : tie.Need-element-write-schedule Inv-loop μ-loop
-element-write-schedule c = search needs
+set-move-start-requires : tie.Need-set-move-start-requires Inv-loop μ-loop
+set-move-start-requires c κs = search needs
 
 add-k : tie.Need-add-k Inv-loop μ-loop
 add-k c = search needs
@@ -36,9 +30,10 @@ loop-less c = search needs
 
 loop-again : tie.Need-loop-again Inv-loop μ-loop
 loop-again c =
-    let s = c .before .before .before .before .before in
-    let at = c .before .before .before .before .loop in
-    (omega arith, λ f. moves-turn f _ _ _ _ (c .before .before .if1 .taken) (at .inv .1 f) (c .move-with .ensures))
+    let h = c .before .before .before .before .if1 .taken in
+    let m = c .before .before .before .before .before .before .loop .inv .1 in
+    let set = c .set-move-start .ensures in
+    (omega arith, λ f. moves-turn f _ _ _ _ h (m f) (c .before .before .move-with .ensures) (set .0) (set .1 .1))
 
 returns : tie.Need-returns Inv-loop μ-loop
 returns c =
@@ -54,9 +49,7 @@ set-moves-spec =
     μ-loop
     loop-holds
     move-with-requires
-    add-schedule
-    mul-schedule
-    element-write-schedule
+    set-move-start-requires
     add-k
     loop-less
     loop-again

@@ -1,7 +1,6 @@
 -- `place` meets its contract: the three writes are the rules' `assign`.
-use Prim.Native.Nat.{_+_}
 use lib.ListN.{length-set}
-use Rattle.placement.proofs.PlaceLaws.{run-length, placed}
+use Rattle.placement.proofs.PlaceLaws.{placed}
 use native.Mathlib.Omega.{arith}
 use Rattle.model.specs.Layout.{jobOf, entriesOf}
 use Rattle.placement.proofs.SlotLaws.{chosen-exists}
@@ -54,12 +53,9 @@ returns c =
     let slot = c .before .before .before .slot-in in
     let run = c .before .set-run .ensures in
     let exists = chosen-exists (s .args .shape) (s .args .last .now) (s .args .colour) (s .args .start) J L (s .pre .0 .processors) (s .pre .1 .1 .1) chosen in (
-      (
-        run-length (moves .last .1 .1 .0) (s .args .i) (slot .result + 1) (s .args .start) run (moves .ensures .0),
-        simp length-set (s .pre .1 .0 .1),
-      ),
+      (run .1 .1, simp length-set (s .pre .1 .0 .1)),
       placed (s .pre .0) (s .args .schedule .now) (s .args .last .now) (s .args .colour) (s .pre .1 .1 .0 .0) (s .args .start) (moves .last .1 .1 .0) (moves .ensures .0) (moves .ensures .1 .0)
-          (c .before .before .before .before .chosen-processor .result) (s .pre .1 .0 .1) (moves .ensures .1 .1) chosen exists (slot .ensures .0) (c .run-time .ensures .0) run,
+          (c .before .before .before .before .chosen-processor .result) (s .pre .1 .0 .1) (moves .ensures .1 .1) chosen exists (slot .ensures .0) (c .run-time .ensures .0) (run .0),
     )
 
 pub place-spec : {M : Type 1} → statement M

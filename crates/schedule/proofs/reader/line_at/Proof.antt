@@ -3,7 +3,7 @@ use native.Mathlib.Omega.{arith}
 use borrow.Author.Needs.{needs}
 use denote.Ref.{now}
 use Rattle.model.specs.Layout.{instanceFrom}
-use Rattle.schedule.proofs.CutLaws.{cut-line, cut-within, cut-no-line}
+use Rattle.schedule.proofs.LineAtLaws.{cut-line, cut-within, cut-no-line}
 use Rattle.schedule.proofs.reader.line_at.Statement.{statement}
 use Rattle.schedule.proofs.reader.line_at.Tie as tie
 

@@ -20,21 +20,16 @@ loop-holds c = moves-start _ _ _ _ _ _ (c .before .pre .1 .0)
 moves-requires : tie.Need-moves-requires Inv-loop μ-loop
 moves-requires c κs = search needs
 
-maker-requires : tie.Need-maker-requires Inv-loop μ-loop
-maker-requires c κs = search needs
+making-task-requires : tie.Need-making-task-requires Inv-loop μ-loop
+making-task-requires c κs = search needs
 
-reader-requires : tie.Need-reader-requires Inv-loop μ-loop
-reader-requires c κs = search needs
+reading-task-requires : tie.Need-reading-task-requires Inv-loop μ-loop
+reading-task-requires c κs = search needs
 
 move-at-requires : tie.Need-move-at-requires Inv-loop μ-loop
 move-at-requires c κs =
-    let x = c .before .before .before in
-    let l = x .before .before .before .before in
-    let f = l .before .before .pre .0 in
-    let h = x .before .before .if1 .taken in (
-      f .processors,
-      (l .loop .inv .within, omega (arith, f .tasks, f .maker (l .loop .i) h, f .reader (l .loop .i) h, c .before .maker .ensures, c .reader .ensures)),
-    )
+    let l = c .before .before .before .before .before .before .before in
+    (l .before .before .pre .0 .processors, (l .loop .inv .within, search needs))
 
 enum-known-fault : tie.Need-enum-known-fault Inv-loop μ-loop
 enum-known-fault c = search needs
@@ -48,20 +43,15 @@ returns c =
     let l = x .before .before .before .before in
     let h = x .before .before .if1 .taken in
     let e = moved-so-far (l .loop .inv) (x .moves .ensures) (m .before .if2 .taken) in
-    (moves-refused (l .loop .inv) h e (m .maker .ensures) (d .reader .ensures) _ (o .move-at .ensures _) _ (c .before .fault .given .1), tt)
+    (moves-refused (l .loop .inv) h e (m .making-task .ensures .0) (d .reading-task .ensures .0) _ (o .move-at .ensures _) _ (c .before .fault .given .1), tt)
 
 enum-known-start : tie.Need-enum-known-start Inv-loop μ-loop
 enum-known-start c = search needs
 
-add-store : tie.Need-add-store Inv-loop μ-loop
-add-store c =
-    let x = c .before .before .before .before .before .before .before .before in
-    omega (arith, x .before .before .before .before .before .before .pre .0 .files)
-
-store-requires : tie.Need-store-requires Inv-loop μ-loop
-store-requires c κs =
-    let x = c .before .before .before .before .before .before .before .before in
-    omega (arith, x .before .before .if1 .taken, x .before .before .before .before .before .before .pre .0 .files, c .store-arg .given .0 .1)
+set-move-start-requires : tie.Need-set-move-start-requires Inv-loop μ-loop
+set-move-start-requires c κs =
+    let x = c .before .before .before .before .before .before .before .before .before .before in
+    omega (arith, x .if1 .taken, x .before .before .before .before .pre .0 .files)
 
 add-k : tie.Need-add-k Inv-loop μ-loop
 add-k c =
@@ -83,16 +73,13 @@ loop-again c =
     let l = x .before .before .before .before in
     let h = x .before .before .if1 .taken in
     let e = moved-so-far (l .loop .inv) (x .moves .ensures) (m .before .if2 .taken) in
-    moves-next (l .loop .inv) h e (m .maker .ensures) (d .reader .ensures) _ (o .move-at .ensures _) _ _ (c .before .before .before .start .given .1)
-    (l .before .before .pre .0) (c .before .store-arg .given .0 .1) _ (c .store .ensures)
+    moves-next (l .loop .inv) h e (m .making-task .ensures .0) (d .reading-task .ensures .0) _ (o .move-at .ensures _) _ _ (c .before .before .before .start .given .1)
+    (l .before .before .pre .0) (c .set-move-start .ensures .1 .0) _ (c .set-move-start .ensures .0)
 
-add-store-2 : tie.Need-add-store-2 Inv-loop μ-loop
-add-store-2 c = let x = c .before .before in omega (arith, x .before .before .before .before .before .before .pre .0 .files)
-
-store-requires-2 : tie.Need-store-requires-2 Inv-loop μ-loop
-store-requires-2 c κs =
-    let x = c .before .before in
-    omega (arith, x .before .before .if1 .taken, x .before .before .before .before .before .before .pre .0 .files, c .store-arg2 .given .0 .1)
+set-move-start-requires-2 : tie.Need-set-move-start-requires-2 Inv-loop μ-loop
+set-move-start-requires-2 c κs =
+    let x = c .before .before .before .before in
+    omega (arith, x .if1 .taken, x .before .before .before .before .pre .0 .files)
 
 add-i-2 : tie.Need-add-i-2 Inv-loop μ-loop
 add-i-2 c = search needs
@@ -102,12 +89,11 @@ loop-less-2 c = search needs
 
 loop-again-2 : tie.Need-loop-again-2 Inv-loop μ-loop
 loop-again-2 c =
-    let a = c .before in
-    let x = a .before .before in
+    let x = c .before .before .before in
     let l = x .before .before .before .before in
     let h = x .before .before .if1 .taken in
-    let e = moved-so-far (l .loop .inv) (x .moves .ensures) (a .before .if2 .left) in
-    moves-skip (l .loop .inv) h e (l .before .before .pre .0) (a .store-arg2 .given .0 .1) _ (c .store2 .ensures)
+    let e = moved-so-far (l .loop .inv) (x .moves .ensures) (c .before .before .if2 .left) in
+    moves-skip (l .loop .inv) h e (l .before .before .pre .0) (c .set-move-start2 .ensures .1 .0) _ (c .set-move-start2 .ensures .0)
 
 returns-2 : tie.Need-returns-2 Inv-loop μ-loop
 returns-2 c =
@@ -123,20 +109,18 @@ read-moves-spec =
     μ-loop
     loop-holds
     moves-requires
-    maker-requires
-    reader-requires
+    making-task-requires
+    reading-task-requires
     move-at-requires
     enum-known-fault
     returns
     enum-known-start
-    add-store
-    store-requires
+    set-move-start-requires
     add-k
     add-i
     loop-less
     loop-again
-    add-store-2
-    store-requires-2
+    set-move-start-requires-2
     add-i-2
     loop-less-2
     loop-again-2

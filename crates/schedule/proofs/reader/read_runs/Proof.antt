@@ -42,18 +42,8 @@ returns-2 c =
     let l = o .before .before .before in
     (λ J. runs-undue (l .loop .inv) (omega arith) J (o .line-at .result .said) (o .line-at .ensures .0 J) _ _ _ (x .said .given .1) (c .if2 .taken), tt)
 
-store-requires : tie.Need-store-requires Inv-loop μ-loop
-store-requires c κs =
-    let l = c .before .before .before .before .before .before .before .before in
-    omega (arith, c .store-arg .given .0 .1, l .before .before .pre .1)
-
-add-store : tie.Need-add-store Inv-loop μ-loop
-add-store c = search needs
-
-store-requires-2 : tie.Need-store-requires-2 Inv-loop μ-loop
-store-requires-2 c κs =
-    let l = c .before .before .before .before .before .before .before .before .before .before in
-    omega (arith, c .store-arg2 .given .0 .1, l .before .before .pre .1)
+set-run-requires : tie.Need-set-run-requires Inv-loop μ-loop
+set-run-requires c κs = omega (arith, c .before .before .before .before .before .before .before .before .before .before .pre .1)
 
 add-i : tie.Need-add-i Inv-loop μ-loop
 add-i c = search needs
@@ -63,14 +53,14 @@ loop-less c = search needs
 
 loop-again : tie.Need-loop-again Inv-loop μ-loop
 loop-again c =
-    let a = c .before .before .before in
-    let x = a .before .before .before in
+    let x = c .before .before .before .before in
     let o = x .before .before in
     let l = o .before .before .before in
-    runs-next (l .loop .inv) (omega arith) (l .before .before .pre .1) (a .store-arg .given .0 .1) (o .line-at .result .said) _ _ _ _ (o .line-at .ensures .1) (o .line-at .ensures .0) (x .said .given .1) (a .before .if2 .left) _ _ (c .before .before .store .ensures) (c .store2 .ensures)
+    let w = c .set-run .ensures in
+    runs-next (l .loop .inv) (omega arith) (l .before .before .pre .1) (w .1 .0) (o .line-at .result .said) _ _ _ _ (o .line-at .ensures .1) (o .line-at .ensures .0) (x .said .given .1) (c .before .before .if2 .left) _ (w .0)
 
-add-t21 : tie.Need-add-t21 Inv-loop μ-loop
-add-t21 c =
+add-t18 : tie.Need-add-t18 Inv-loop μ-loop
+add-t18 c =
     let l = c .before .before in
     omega (arith, l .loop .inv .passed, l .before .before .pre .1)
 
@@ -93,11 +83,9 @@ read-runs-spec =
     fault-of-requires
     returns
     returns-2
-    store-requires
-    add-store
-    store-requires-2
+    set-run-requires
     add-i
     loop-less
     loop-again
-    add-t21
+    add-t18
     returns-3)

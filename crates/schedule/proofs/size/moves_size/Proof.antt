@@ -7,7 +7,7 @@ use Rattle.rules.specs.ScheduleText.{moveLines}
 use Rattle.rules.proofs.ScheduleTextLaws.{moves-none}
 use Rattle.model.specs.Layout.{jobOf, entriesOf, instanceFrom, scheduleFrom}
 use Rattle.schedule.proofs.CrossingLaws.{moved-is}
-use Rattle.schedule.proofs.PieceLaws.{moves-grow, move-piece, no-piece}
+use Rattle.schedule.proofs.TextLaws.{moves-grow, move-piece, no-piece}
 use Rattle.schedule.proofs.SizeLaws.{Counted, counted-none, counted-next, counted-skip, counted-all}
 use Rattle.schedule.proofs.size.moves_size.Statement.{statement}
 use Rattle.schedule.proofs.size.moves_size.Tie as tie
@@ -24,23 +24,17 @@ loop-holds c = counted-none _ _ (moves-none _ _)
 moves-requires : tie.Need-moves-requires Inv-loop μ-loop
 moves-requires c κs = search needs
 
-maker-requires : tie.Need-maker-requires Inv-loop μ-loop
-maker-requires c κs = search needs
+making-task-requires : tie.Need-making-task-requires Inv-loop μ-loop
+making-task-requires c κs = search needs
 
-reader-requires : tie.Need-reader-requires Inv-loop μ-loop
-reader-requires c κs = search needs
+reading-task-requires : tie.Need-reading-task-requires Inv-loop μ-loop
+reading-task-requires c κs = search needs
 
 add-move-size : tie.Need-add-move-size Inv-loop μ-loop
-add-move-size c =
-    let x = c .before .before .before in
-    let l = x .before .before .before in
-    omega (arith, l .before .pre .tasks, l .before .pre .maker (l .loop .k) (x .before .if1 .taken), c .before .maker .ensures)
+add-move-size c = search needs
 
 add-move-size-2 : tie.Need-add-move-size-2 Inv-loop μ-loop
-add-move-size-2 c =
-    let x = c .before .before .before in
-    let l = x .before .before .before in
-    omega (arith, l .before .pre .tasks, l .before .pre .reader (l .loop .k) (x .before .if1 .taken), c .reader .ensures)
+add-move-size-2 c = search needs
 
 move-start-requires : tie.Need-move-start-requires Inv-loop μ-loop
 move-start-requires c κs = search needs
@@ -70,7 +64,7 @@ loop-again c =
     let J = jobOf (now (s .args .job)) in
     let L = entriesOf (now (s .args .schedule)) in
     let e = moved-is (instanceFrom (s .args .shape) J) (scheduleFrom (s .args .shape) L) (l .loop .k) (x .moves .ensures) (m .before .if2 .taken) in
-    let piece = move-piece (s .args .shape) J L h _ _ _ (m .maker .ensures) (d .reader .ensures) (c .before .move-start .ensures) e in
+    let piece = move-piece (s .args .shape) J L h _ _ _ (m .making-task .ensures .0) (d .reading-task .ensures .0) (c .before .move-start .ensures) e in
     counted-next _ _ (moves-grow _ _) (l .loop .inv) h _ piece _ (c .move-size .ensures .0) (c .move-size .ensures .1)
 
 add-k-2 : tie.Need-add-k-2 Inv-loop μ-loop
@@ -103,8 +97,8 @@ moves-size-spec =
     μ-loop
     loop-holds
     moves-requires
-    maker-requires
-    reader-requires
+    making-task-requires
+    reading-task-requires
     add-move-size
     add-move-size-2
     move-start-requires

@@ -6,7 +6,7 @@ use denote.Ref.{now}
 use Rattle.rules.specs.ScheduleText.{runLines}
 use Rattle.rules.proofs.ScheduleTextLaws.{runs-none}
 use Rattle.model.specs.Layout.{entriesOf, scheduleFrom}
-use Rattle.schedule.proofs.PieceLaws.{runs-grow, run-piece}
+use Rattle.schedule.proofs.TextLaws.{runs-grow, run-piece}
 use Rattle.schedule.proofs.SizeLaws.{Counted, counted-none, counted-next, counted-all}
 use Rattle.schedule.proofs.size.runs_size.Statement.{statement}
 use Rattle.schedule.proofs.size.runs_size.Tie as tie

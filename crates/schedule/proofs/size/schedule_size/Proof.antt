@@ -3,7 +3,7 @@ use borrow.Author.Needs.{needs}
 use denote.Ref.{now}
 use Rattle.model.specs.Layout.{jobOf, entriesOf}
 use Rattle.model.specs.Claims.{asClaim}
-use Rattle.schedule.proofs.PieceLaws.{text-length}
+use Rattle.schedule.proofs.TextLaws.{text-length}
 use Rattle.schedule.proofs.size.schedule_size.Statement.{statement}
 use Rattle.schedule.proofs.size.schedule_size.Tie as tie
 

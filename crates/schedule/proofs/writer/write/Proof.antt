@@ -5,7 +5,7 @@ use denote.Ref.{now}
 use Rattle.text.proofs.WroteLaws.{wrote-length, wrote-within, wrote-room, wrote-part}
 use Rattle.model.specs.Layout.{jobOf, entriesOf}
 use Rattle.model.specs.Claims.{asClaim}
-use Rattle.schedule.proofs.PieceLaws.{text-pieces, text-fits}
+use Rattle.schedule.proofs.TextLaws.{text-pieces, text-fits}
 use Rattle.schedule.proofs.writer.write.Statement.{statement}
 use Rattle.schedule.proofs.writer.write.Tie as tie
 

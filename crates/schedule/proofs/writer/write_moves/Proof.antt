@@ -7,7 +7,7 @@ use Rattle.rules.specs.ScheduleText.{moveLines}
 use Rattle.rules.proofs.ScheduleTextLaws.{moves-none}
 use Rattle.model.specs.Layout.{jobOf, entriesOf, instanceFrom, scheduleFrom}
 use Rattle.schedule.proofs.CrossingLaws.{moved-is}
-use Rattle.schedule.proofs.PieceLaws.{moves-grow, move-piece, no-piece}
+use Rattle.schedule.proofs.TextLaws.{moves-grow, move-piece, no-piece}
 use Rattle.schedule.proofs.LaidLaws.{Laid, laid-none, laid-within, laid-length, laid-room, laid-next, laid-skip, laid-all}
 use Rattle.schedule.proofs.writer.write_moves.Statement.{statement}
 use Rattle.schedule.proofs.writer.write_moves.Tie as tie
@@ -25,11 +25,11 @@ loop-holds c = laid-none _ _ _ (moves-none _ _) (c .before .pre .1)
 moves-requires : tie.Need-moves-requires Inv-loop μ-loop
 moves-requires c κs = search needs
 
-maker-requires : tie.Need-maker-requires Inv-loop μ-loop
-maker-requires c κs = search needs
+making-task-requires : tie.Need-making-task-requires Inv-loop μ-loop
+making-task-requires c κs = search needs
 
-reader-requires : tie.Need-reader-requires Inv-loop μ-loop
-reader-requires c κs = search needs
+reading-task-requires : tie.Need-reading-task-requires Inv-loop μ-loop
+reading-task-requires c κs = search needs
 
 move-start-requires : tie.Need-move-start-requires Inv-loop μ-loop
 move-start-requires c κs = search needs
@@ -44,20 +44,10 @@ part-write-move-end : tie.Need-part-write-move-end Inv-loop μ-loop
 part-write-move-end c = search needs
 
 add-write-move : tie.Need-add-write-move Inv-loop μ-loop
-add-write-move c =
-    let m = c .before .before .before in
-    let x = m .before .before in
-    let l = x .before .before .before in
-    let f = l .before .before .pre .0 in
-    omega (arith, f .tasks, f .maker (l .loop .k) (x .before .if1 .taken), m .maker .ensures)
+add-write-move c = search needs
 
 add-write-move-2 : tie.Need-add-write-move-2 Inv-loop μ-loop
-add-write-move-2 c =
-    let d = c .before .before in
-    let x = d .before .before .before in
-    let l = x .before .before .before in
-    let f = l .before .before .pre .0 in
-    omega (arith, f .tasks, f .reader (l .loop .k) (x .before .if1 .taken), d .reader .ensures)
+add-write-move-2 c = search needs
 
 write-move-requires : tie.Need-write-move-requires Inv-loop μ-loop
 write-move-requires c κs =
@@ -71,7 +61,7 @@ write-move-requires c κs =
     let J = jobOf (now (s .args .job)) in
     let L = entriesOf (now (s .args .schedule)) in
     let e = moved-is (instanceFrom (s .args .shape) J) (scheduleFrom (s .args .shape) L) (l .loop .k) (x .moves .ensures) (m .before .if2 .taken) in
-    let piece = move-piece (s .args .shape) J L h _ _ _ (m .maker .ensures) (d .reader .ensures) (t .move-start .ensures) e in
+    let piece = move-piece (s .args .shape) J L h _ _ _ (m .making-task .ensures .0) (d .reading-task .ensures .0) (t .move-start .ensures) e in
     laid-room _ _ (moves-grow _ _) (l .loop .inv) h _ piece
 
 add-k : tie.Need-add-k Inv-loop μ-loop
@@ -93,7 +83,7 @@ loop-again c =
     let J = jobOf (now (s .args .job)) in
     let L = entriesOf (now (s .args .schedule)) in
     let e = moved-is (instanceFrom (s .args .shape) J) (scheduleFrom (s .args .shape) L) (l .loop .k) (x .moves .ensures) (m .before .if2 .taken) in
-    let piece = move-piece (s .args .shape) J L h _ _ _ (m .maker .ensures) (d .reader .ensures) (t .move-start .ensures) e in
+    let piece = move-piece (s .args .shape) J L h _ _ _ (m .making-task .ensures .0) (d .reading-task .ensures .0) (t .move-start .ensures) e in
     laid-next _ _ (moves-grow _ _) (l .loop .inv) h _ piece _ _ (w .write-move .ensures)
 
 add-at : tie.Need-add-at Inv-loop μ-loop
@@ -132,8 +122,8 @@ write-moves-spec =
     μ-loop
     loop-holds
     moves-requires
-    maker-requires
-    reader-requires
+    making-task-requires
+    reading-task-requires
     move-start-requires
     sub-write-move
     part-write-move-start
