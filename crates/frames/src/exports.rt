@@ -22,7 +22,9 @@ pub extern "C" fn frames_mark<'a>(sheet: &'a [u8], paper: &'a [u8], result: &mut
 #[no_mangle]
 pub extern "C" fn frames_fault_line<'a>(sheet: &'a [u8], paper: &'a [u8], line: &mut [u8]) -> usize
     ensures { λ r. ⌜ r ≡ length (faultLine (now (sheet .entry)) (now (paper .entry))) ⌝ }
-    ensures { λ r. ⌜ now (line .exit) ≡ cond (leb (length (faultLine (now (sheet .entry)) (now (paper .entry)))) (length (now (line .entry)))) (overwritten (faultLine (now (sheet .entry)) (now (paper .entry))) (now (line .entry))) (now (line .entry)) ⌝ }
+    ensures { λ r. ⌜ now (line .exit) ≡
+        cond (leb (length (faultLine (now (sheet .entry)) (now (paper .entry)))) (length (now (line .entry))))
+        (overwritten (faultLine (now (sheet .entry)) (now (paper .entry))) (now (line .entry))) (now (line .entry)) ⌝ }
 {
     let found = marker::fault_line(sheet, paper);
     if line.len() < found.len() {

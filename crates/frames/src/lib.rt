@@ -1,4 +1,4 @@
-// The public calls. None asks anything of its caller: any bytes may be handed in.
+// The public calls. None has a `requires`: any bytes may be handed in.
 mod exports;
 mod marker;
 mod planners;

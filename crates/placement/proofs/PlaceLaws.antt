@@ -13,7 +13,8 @@ use Rattle.rules.specs.Model.{Instance, Run, unplaced, processorCount, fileCoun
 use Rattle.rules.specs.Scheduling.{Partial, slotOf, chosenProcessor, moveWith, assign, empty, finishOn}
 use Rattle.rules.proofs.CountLaws.{list-cong, list-set, list-same, getD-same}
 use Rattle.model.specs.declared.layout.Shape.{Shape}
-use Rattle.model.specs.Layout.{Job, entriesOf, runFrom, instanceFrom, scheduleFrom, scheduleOf, partialFrom, colourBy, countIn, JobBounds, scheduleLength, lastLength, withRunAt}
+use Rattle.model.specs.Layout.{Job, entriesOf, runFrom, instanceFrom, scheduleFrom, scheduleOf, partialFrom, colourBy, countIn, JobBounds, scheduleLength}
+use Rattle.model.specs.Layout.{lastLength, withRunAt}
 use Rattle.model.proofs.LayoutLaws.{file-count, task-count, finish-on-at, processors-of}
 use Rattle.model.proofs.WriteLaws.{run-here, run-other, run-moves}
 use Rattle.placement.specs.Slots.{slotIn}
@@ -22,7 +23,8 @@ use Rattle.placement.proofs.SlotLaws.{slot-at, slot-exists}
 -- ---- the whole
 
 parts : {r r′ : List Run} {m m′ l l′ : List ℕ} → r ≡ r′ → m ≡ m′ → l ≡ l′
-    → _≡_ {A = Partial} (record { schedule = record { runs = r; moves = m }; lastFinish = l }) (record { schedule = record { runs = r′; moves = m′ }; lastFinish = l′ })
+    → _≡_ {A = Partial} (record { schedule = record { runs = r; moves = m }; lastFinish = l })
+    (record { schedule = record { runs = r′; moves = m′ }; lastFinish = l′ })
 parts p q e = rw (p, q, e)
 
 module _ {b : Shape} {J : Job} (f : JobBounds b J) (xs last : List ℕ) (x : Bool) {i : ℕ} (inside : i < b .tasks) (s : ℕ) where
@@ -73,8 +75,11 @@ pub empty-from : (b : Shape) (J : Job) (m n : ℕ) → partialFrom b (entriesOf 
 unfolding empty scheduleFrom
 empty-from b J m n =
     let at : (j : ℕ) → _≡_ {A = ℕ} (getD (replicate m 0) j 0) 0 = λ j. getD-same m j 0 in
-    let count : b .board .blue .processors + b .board .red .processors ≡ processorCount (instanceFrom b J) = omega (arith, processors-of b J true, processors-of b J false) in
+    let count : b .board .blue .processors + b .board .red .processors ≡ processorCount (instanceFrom b J) = omega
+    (arith, processors-of b J true, processors-of b J false) in
     parts
-    (list-same (b .tasks) (runFrom (entriesOf (replicate m 0))) unplaced (λ j h. rw (at j, at (maxTasks + j))) ∙ ap (λ k. replicate k unplaced) (sym (task-count b J)))
+    (list-same (b .tasks) (runFrom (entriesOf (replicate m 0))) unplaced (λ j h. rw (at j, at (maxTasks + j))) ∙ ap (λ k. replicate k unplaced)
+    (sym (task-count b J)))
     (list-same (b .files) (entriesOf (replicate m 0) .moveStart) 0 (λ k h. at (2 * maxTasks + k)) ∙ ap (λ k. replicate k 0) (sym (file-count b J)))
-    (list-same (b .board .blue .processors + b .board .red .processors) (λ q. getD (replicate n 0) q 0) 0 (λ q h. getD-same n q 0) ∙ ap (λ k. replicate k 0) count)
+    (list-same (b .board .blue .processors + b .board .red .processors) (λ q. getD (replicate n 0) q 0) 0 (λ q h. getD-same n q 0) ∙ ap
+    (λ k. replicate k 0) count)

@@ -55,7 +55,8 @@ module _ (b : Shape) (xs : List ℕ) (x : Bool) (s : ℕ) where
   abbrev pub suitsIn : ℕ → Bool
   suitsIn p = freeIn p && eqb (lastIn b xs x p) latestIn
 
-  pub latest-turn : (p r f : ℕ) → f ≡ lastIn b xs x p → r ≡ cond (leb f s) f 0 → maxWhere (p + 1) freeIn (lastIn b xs x) ≡ max (maxWhere p freeIn (lastIn b xs x)) r
+  pub latest-turn : (p r f : ℕ) → f ≡ lastIn b xs x p → r ≡ cond (leb f s) f 0
+      → maxWhere (p + 1) freeIn (lastIn b xs x) ≡ max (maxWhere p freeIn (lastIn b xs x)) r
   latest-turn p r f e q = max-turn p freeIn (lastIn b xs x) q (ap (λ y. leb y s) e) (sym e)
 
   pub latest-total : {n : ℕ} → n ≡ countIn b x → maxWhere n freeIn (lastIn b xs x) ≡ latestIn

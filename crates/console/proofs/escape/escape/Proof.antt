@@ -3,7 +3,8 @@ use borrow.Author.Needs.{needs}
 use Prim.Native.Nat.{_-_}
 use native.Mathlib.Omega.{arith}
 use lib.ListN.{length}
-use Rattle.console.proofs.EscapedLaws.{Escaping, escaping-start, escaping-length, escaping-within, byte-fits, escaping-more, escaping-end, escaping-counts, escaping-shown}
+use Rattle.console.proofs.EscapedLaws.{Escaping, escaping-start, escaping-length, escaping-within, byte-fits, escaping-more, escaping-end}
+use Rattle.console.proofs.EscapedLaws.{escaping-counts, escaping-shown}
 use Rattle.console.proofs.escape.escape.Statement.{statement}
 use Rattle.console.proofs.escape.escape.Tie as tie
 

@@ -25,7 +25,9 @@ returns : tie.Need-returns
 returns c =
     let s = c .before .before .before .before .before in
     c .select .ensures .0
-    ∙ move-from (s .pre .0) (entriesOf (s .args .schedule .now)) (s .pre .1) (s .args .i) (colourBy (s .args .colour)) (s .args .start) (c .before .before .before .before .crossing-file .ensures) (c .before .before .before .move-time .ensures) (c .before .before .saturating-sub .ensures) (c .before .move-start .ensures)
+    ∙ move-from (s .pre .0) (entriesOf (s .args .schedule .now)) (s .pre .1) (s .args .i) (colourBy (s .args .colour)) (s .args .start)
+    (c .before .before .before .before .crossing-file .ensures) (c .before .before .before .move-time .ensures)
+    (c .before .before .saturating-sub .ensures) (c .before .move-start .ensures)
 
 pub move-with-spec : {M : Type 1} → statement M
 move-with-spec =

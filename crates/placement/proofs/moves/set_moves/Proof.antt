@@ -8,7 +8,8 @@ use Rattle.placement.proofs.moves.set_moves.Statement.{statement}
 use Rattle.placement.proofs.moves.set_moves.Tie as tie
 
 abbrev Inv-loop : tie.InvT-loop
-Inv-loop shape job schedule₀ i colour start k₀ schedule k = (k ≤ shape .files) × ((f : JobBounds shape (jobOf job)) → MovesTo f schedule₀ i (colourBy colour) start schedule k)
+Inv-loop shape job schedule₀ i colour start k₀ schedule k =
+    (k ≤ shape .files) × ((f : JobBounds shape (jobOf job)) → MovesTo f schedule₀ i (colourBy colour) start schedule k)
 
 abbrev μ-loop : tie.MeasureT-loop
 μ-loop shape job schedule₀ i colour start k₀ schedule k = shape .files - k

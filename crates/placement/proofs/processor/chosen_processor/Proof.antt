@@ -11,7 +11,8 @@ use Rattle.placement.proofs.processor.chosen_processor.Statement.{state
 use Rattle.placement.proofs.processor.chosen_processor.Tie as tie
 
 abbrev Inv-loop : tie.InvT-loop
-Inv-loop shape last colour start n latest p₀ p = (p ≤ n) × (n ≡ countIn shape colour) × (latest ≡ latestIn shape last colour start) × ((q : ℕ) → q < p → suitsIn shape last colour start q ≡ false)
+Inv-loop shape last colour start n latest p₀ p =
+    (p ≤ n) × (n ≡ countIn shape colour) × (latest ≡ latestIn shape last colour start) × ((q : ℕ) → q < p → suitsIn shape last colour start q ≡ false)
 
 abbrev μ-loop : tie.MeasureT-loop
 μ-loop shape last colour start n latest p₀ p = n - p
@@ -36,7 +37,8 @@ returns c =
     let s = c .before .before .before .before .before .before .before in
     let at = c .before .before .before .before .loop in λ J L.
     chosen-first (s .args .shape) (s .args .last .now) (s .args .colour) (s .args .start) J L (at .p) (omega (arith, at .inv .0, at .inv .1)) (at .inv .3)
-    (λ l. suits-from (s .args .shape) (s .args .last .now) (s .args .colour) (s .args .start) (at .p) (c .before .before .last-in .ensures) (at .inv .2) (c .before .is-latest-free .ensures) (c .if1 .taken))
+    (λ l. suits-from (s .args .shape) (s .args .last .now) (s .args .colour) (s .args .start) (at .p) (c .before .before .last-in .ensures) (at .inv .2)
+    (c .before .is-latest-free .ensures) (c .if1 .taken))
 
 add-p : tie.Need-add-p Inv-loop μ-loop
 add-p c = search needs
@@ -51,7 +53,8 @@ loop-again c =
       omega arith,
       at .inv .1,
       at .inv .2,
-      below-more _ _ (at .inv .3) (suits-from (s .args .shape) (s .args .last .now) (s .args .colour) (s .args .start) (at .p) (c .before .before .last-in .ensures) (at .inv .2) (c .before .is-latest-free .ensures) (c .if1 .left)),
+      below-more _ _ (at .inv .3) (suits-from (s .args .shape) (s .args .last .now) (s .args .colour) (s .args .start) (at .p)
+          (c .before .before .last-in .ensures) (at .inv .2) (c .before .is-latest-free .ensures) (c .if1 .left)),
     )
 
 returns-2 : tie.Need-returns-2 Inv-loop μ-loop

@@ -14,7 +14,8 @@ use Rattle.placement.proofs.processor.latest_in.Statement.{statement}
 use Rattle.placement.proofs.processor.latest_in.Tie as tie
 
 abbrev Inv-loop : tie.InvT-loop
-Inv-loop shape last colour start n most₀ p₀ most p = (p ≤ n) × (n ≡ countIn shape colour) × (most ≡ maxWhere p (freeIn shape last colour start) (lastIn shape last colour))
+Inv-loop shape last colour start n most₀ p₀ most p =
+    (p ≤ n) × (n ≡ countIn shape colour) × (most ≡ maxWhere p (freeIn shape last colour start) (lastIn shape last colour))
 
 abbrev μ-loop : tie.MeasureT-loop
 μ-loop shape last colour start n most₀ p₀ most p = n - p
@@ -44,7 +45,13 @@ loop-again : tie.Need-loop-again Inv-loop μ-loop
 loop-again c =
     let s = c .before .before .before .before .before .before in
     let at = c .before .before .before .before .loop in
-    omega (arith, at .inv .1, at .inv .2, latest-turn (s .args .shape) (s .args .last .now) (s .args .colour) (s .args .start) (at .p) (c .before .value-if .result) (c .before .before .last-in .result) (c .before .before .last-in .ensures) (c .before .value-if .ensures .0))
+    omega (
+      arith,
+      at .inv .1,
+      at .inv .2,
+      latest-turn (s .args .shape) (s .args .last .now) (s .args .colour) (s .args .start) (at .p)
+          (c .before .value-if .result) (c .before .before .last-in .result) (c .before .before .last-in .ensures) (c .before .value-if .ensures .0),
+    )
 
 returns : tie.Need-returns Inv-loop μ-loop
 returns c =

@@ -18,8 +18,11 @@ slot-in-requires : tie.Need-slot-in-requires
 slot-in-requires c κs =
     let s = c .before .before .before .before in
     let J = jobOf (s .args .job .now) in
-    let L = entriesOf (s .args .schedule .now) in
-    (s .pre .0 .processors, chosen-exists (s .args .shape) (s .args .last .now) (s .args .colour) (s .args .start) J L (s .pre .0 .processors) (s .pre .1 .1 .1) (c .chosen-processor .ensures J L))
+    let L = entriesOf (s .args .schedule .now) in (
+      s .pre .0 .processors,
+      chosen-exists (s .args .shape) (s .args .last .now) (s .args .colour) (s .args .start) J L (s .pre .0 .processors)
+          (s .pre .1 .1 .1) (c .chosen-processor .ensures J L),
+    )
 
 add-set-run : tie.Need-add-set-run
 add-set-run c = search needs
@@ -52,10 +55,13 @@ returns c =
     let chosen = c .before .before .before .before .chosen-processor .ensures J L in
     let slot = c .before .before .before .slot-in in
     let run = c .before .set-run .ensures in
-    let exists = chosen-exists (s .args .shape) (s .args .last .now) (s .args .colour) (s .args .start) J L (s .pre .0 .processors) (s .pre .1 .1 .1) chosen in (
+    let exists = chosen-exists (s .args .shape) (s .args .last .now) (s .args .colour) (s .args .start) J L
+    (s .pre .0 .processors) (s .pre .1 .1 .1) chosen in (
       (run .1 .1, simp length-set (s .pre .1 .0 .1)),
-      placed (s .pre .0) (s .args .schedule .now) (s .args .last .now) (s .args .colour) (s .pre .1 .1 .0 .0) (s .args .start) (moves .last .1 .1 .0) (moves .ensures .0) (moves .ensures .1 .0)
-          (c .before .before .before .before .chosen-processor .result) (s .pre .1 .0 .1) (moves .ensures .1 .1) chosen exists (slot .ensures .0) (c .run-time .ensures .0) (run .0),
+      placed (s .pre .0) (s .args .schedule .now) (s .args .last .now) (s .args .colour) (s .pre .1 .1 .0 .0) (s .args .start) (moves .last .1 .1 .0)
+          (moves .ensures .0) (moves .ensures .1 .0)
+          (c .before .before .before .before .chosen-processor .result) (s .pre .1 .0 .1) (moves .ensures .1 .1) chosen exists (slot .ensures .0)
+          (c .run-time .ensures .0) (run .0),
     )
 
 pub place-spec : {M : Type 1} → statement M
