@@ -7,7 +7,7 @@ use lib.ListN.{length}
 use Rattle.rules.specs.Limits.{maxText}
 use Rattle.rules.specs.Scheduling.{Planner}
 use Rattle.plan_text.specs.declared.Answer.{Answer}
-use Rattle.plan_text.specs.Planning.{asAnswer}
+use Rattle.plan_text.specs.Answers.{asAnswer}
 use Rattle.frames.specs.Demands.{PlannerDemands}
 use Rattle.console.specs.LongEnough.{LongEnough}
 

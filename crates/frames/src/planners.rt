@@ -3,7 +3,7 @@ ghost use mathlib.Core.Path.{_≡_};
 ghost use Rattle.rules.specs.Calls.{plan as rules-plan};
 ghost use Rattle.rules.specs.Scheduling.{memHeft, memMinMin};
 ghost use Rattle.planner.specs.Outcomes.{asPlanner};
-ghost use Rattle.plan_text.specs.Planning.{asAnswer};
+ghost use Rattle.plan_text.specs.Answers.{asAnswer};
 ghost use Rattle.frames.specs.Demands.{PlannerDemands};
 use instance::InstanceRead;
 use model::layout;

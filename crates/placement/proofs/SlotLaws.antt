@@ -52,8 +52,8 @@ module _ (b : Shape) (xs : List ℕ) (x : Bool) (s : ℕ) where
   latestIn = maxWhere (countIn b x) freeIn (lastIn b xs x)
 
   -- whether it is, with the latest last finish of those that are
-  abbrev pub suitsIn : ℕ → Bool
-  suitsIn p = freeIn p && eqb (lastIn b xs x p) latestIn
+  abbrev pub latestFreeIn : ℕ → Bool
+  latestFreeIn p = freeIn p && eqb (lastIn b xs x p) latestIn
 
   pub latest-turn : (p r f : ℕ) → f ≡ lastIn b xs x p → r ≡ cond (leb f s) f 0
       → maxWhere (p + 1) freeIn (lastIn b xs x) ≡ max (maxWhere p freeIn (lastIn b xs x)) r
@@ -62,8 +62,8 @@ module _ (b : Shape) (xs : List ℕ) (x : Bool) (s : ℕ) where
   pub latest-total : {n : ℕ} → n ≡ countIn b x → maxWhere n freeIn (lastIn b xs x) ≡ latestIn
   latest-total e = ap (λ n. maxWhere n freeIn (lastIn b xs x)) e
 
-  pub suits-from : (p : ℕ) {f latest : ℕ} {r v : Bool} → f ≡ lastIn b xs x p → latest ≡ latestIn → r ≡ leb f s && eqb f latest → r ≡ v → suitsIn p ≡ v
-  suits-from p e q t h = rw (← h, t, q, e)
+  pub latest-free-from : (p : ℕ) {f latest : ℕ} {r v : Bool} → f ≡ lastIn b xs x p → latest ≡ latestIn → r ≡ leb f s && eqb f latest → r ≡ v → latestFreeIn p ≡ v
+  latest-free-from p e q t h = rw (← h, t, q, e)
 
   module _ (J : Job) (L : Entries) where
     abbrev I : Instance
@@ -81,16 +81,16 @@ module _ (b : Shape) (xs : List ℕ) (x : Bool) (s : ℕ) where
     latest-at : maxWhere (sideOf I c .processors) (freeBy I Q c s) (lastFinishOn I Q c) ≡ latestIn
     latest-at = rw (processors-of b J x) (max-cong (countIn b x) _ _ (λ p h. rw (last-at p h)))
 
-    suits-at : (p : ℕ) → p < countIn b x → latestFree I Q c s p ≡ suitsIn p
-    suits-at p h = rw (latest-at, last-at p h)
+    latest-free-at : (p : ℕ) → p < countIn b x → latestFree I Q c s p ≡ latestFreeIn p
+    latest-free-at p h = rw (latest-at, last-at p h)
 
-    -- the first that suits is the one chosen
-    pub chosen-first : (p : ℕ) → p ≤ countIn b x → ((q : ℕ) → q < p → suitsIn q ≡ false) → (p < countIn b x → suitsIn p ≡ true) → p ≡ chosenProcessor I Q c s
+    -- the first of these is the one chosen
+    pub chosen-first : (p : ℕ) → p ≤ countIn b x → ((q : ℕ) → q < p → latestFreeIn q ≡ false) → (p < countIn b x → latestFreeIn p ≡ true) → p ≡ chosenProcessor I Q c s
     unfolding chosenProcessor
     chosen-first p l before here =
         let n : sideOf I c .processors ≡ countIn b x = processors-of b J x in
         first-passed (sideOf I c .processors) (latestFree I Q c s) p (omega arith)
-        (λ h. suits-at p (omega arith) ∙ here (omega arith)) (λ q h. suits-at q (omega arith) ∙ before q h)
+        (λ h. latest-free-at p (omega arith) ∙ here (omega arith)) (λ q h. latest-free-at q (omega arith) ∙ before q h)
 
     -- it exists, if the start is not before start 1
     pub chosen-exists : Processors b → processorStart I Q c ≤ s → {p : ℕ} → p ≡ chosenProcessor I Q c s → p < countIn b x

@@ -13,7 +13,7 @@ use Rattle.text.specs.Wrote.{Wrote}
 use Rattle.planner.specs.declared.Outcome.{Outcome}
 use Rattle.planner.specs.declared.Outcome.the-variants as Made
 use Rattle.planner.specs.Outcomes.{asOutcome}
-use Rattle.plan_text.specs.Planning.{planText}
+use Rattle.plan_text.specs.Answers.{planText}
 
 -- ---- the text fits, or not
 

@@ -1,2 +1,2 @@
 -- What the contracts of this crate cite besides the rules.
-pub mod Planning
+pub mod Answers

@@ -4,7 +4,7 @@ ghost use Rattle.rules.specs.Calls.{written, planOn};
 ghost use Rattle.rules.specs.Promises.{WellFormed};
 ghost use Rattle.model.specs.Layout.{entriesOf, instanceOf, scheduleOf, InBounds, Placed};
 ghost use Rattle.planner.specs.Outcomes.{asPlanner};
-ghost use Rattle.plan_text.specs.Planning.{planText, asAnswer};
+ghost use Rattle.plan_text.specs.Answers.{planText, asAnswer};
 use claims::true_claim;
 use model::layout;
 use model::layout::Shape;

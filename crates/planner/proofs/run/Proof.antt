@@ -8,8 +8,8 @@ use Rattle.placement.proofs.PlaceLaws.{empty-from}
 use Rattle.selection.proofs.ChoiceLaws.{chosen-bounds}
 use Rattle.model.specs.Layout.{jobOf, entriesOf, scheduleLength, lastLength}
 use Rattle.planner.specs.Outcomes.{asPlanner}
-use Rattle.planner.proofs.PlanningLaws.{Planning, planning-start, planning-bounds, planning-last}
-use Rattle.planner.proofs.PlanningLaws.{planning-stuck, planning-processor, planning-next, planning-done}
+use Rattle.planner.proofs.RunLaws.{Planning, planning-start, planning-bounds, planning-last}
+use Rattle.planner.proofs.RunLaws.{planning-stuck, planning-processor, planning-next, planning-done}
 use borrow.Author.Needs.{needs}
 use Rattle.planner.proofs.run.Statement.{statement}
 use Rattle.planner.proofs.run.Tie as tie

@@ -5,14 +5,14 @@ use mathlib.Core.Path.{_≡_}
 use native.Mathlib.Omega.{arith}
 use borrow.Author.Count.{below-more}
 use Rattle.model.specs.Layout.{countIn}
-use Rattle.placement.proofs.SlotLaws.{latestIn, suitsIn, suits-from, chosen-first}
+use Rattle.placement.proofs.SlotLaws.{latestIn, latestFreeIn, latest-free-from, chosen-first}
 use borrow.Author.Needs.{needs}
 use Rattle.placement.proofs.processor.chosen_processor.Statement.{statement}
 use Rattle.placement.proofs.processor.chosen_processor.Tie as tie
 
 abbrev Inv-loop : tie.InvT-loop
 Inv-loop shape last colour start n latest p₀ p =
-    (p ≤ n) × (n ≡ countIn shape colour) × (latest ≡ latestIn shape last colour start) × ((q : ℕ) → q < p → suitsIn shape last colour start q ≡ false)
+    (p ≤ n) × (n ≡ countIn shape colour) × (latest ≡ latestIn shape last colour start) × ((q : ℕ) → q < p → latestFreeIn shape last colour start q ≡ false)
 
 abbrev μ-loop : tie.MeasureT-loop
 μ-loop shape last colour start n latest p₀ p = n - p
@@ -37,7 +37,7 @@ returns c =
     let s = c .before .before .before .before .before .before .before in
     let at = c .before .before .before .before .loop in λ J L.
     chosen-first (s .args .shape) (s .args .last .now) (s .args .colour) (s .args .start) J L (at .p) (omega (arith, at .inv .0, at .inv .1)) (at .inv .3)
-    (λ l. suits-from (s .args .shape) (s .args .last .now) (s .args .colour) (s .args .start) (at .p) (c .before .before .last-in .ensures) (at .inv .2)
+    (λ l. latest-free-from (s .args .shape) (s .args .last .now) (s .args .colour) (s .args .start) (at .p) (c .before .before .last-in .ensures) (at .inv .2)
     (c .before .is-latest-free .ensures) (c .if1 .taken))
 
 add-p : tie.Need-add-p Inv-loop μ-loop
@@ -53,7 +53,7 @@ loop-again c =
       omega arith,
       at .inv .1,
       at .inv .2,
-      below-more _ _ (at .inv .3) (suits-from (s .args .shape) (s .args .last .now) (s .args .colour) (s .args .start) (at .p)
+      below-more _ _ (at .inv .3) (latest-free-from (s .args .shape) (s .args .last .now) (s .args .colour) (s .args .start) (at .p)
           (c .before .before .last-in .ensures) (at .inv .2) (c .before .is-latest-free .ensures) (c .if1 .left)),
     )
 

@@ -1,4 +1,4 @@
--- `suits` meets its contract.
+-- `is_latest_free` meets its contract.
 use borrow.Author.Tests.{le-leb, lt-leb}
 use Rattle.placement.proofs.processor.is_latest_free.Statement.{statement}
 use Rattle.placement.proofs.processor.is_latest_free.Tie as tie
