@@ -62,7 +62,8 @@ module _ (b : Shape) (xs : List ℕ) (x : Bool) (s : ℕ) where
   pub latest-total : {n : ℕ} → n ≡ countIn b x → maxWhere n freeIn (lastIn b xs x) ≡ latestIn
   latest-total e = ap (λ n. maxWhere n freeIn (lastIn b xs x)) e
 
-  pub latest-free-from : (p : ℕ) {f latest : ℕ} {r v : Bool} → f ≡ lastIn b xs x p → latest ≡ latestIn → r ≡ leb f s && eqb f latest → r ≡ v → latestFreeIn p ≡ v
+  pub latest-free-from : (p : ℕ) {f latest : ℕ} {r v : Bool} → f ≡ lastIn b xs x p → latest ≡ latestIn → r ≡ leb f s && eqb f latest → r ≡ v
+      → latestFreeIn p ≡ v
   latest-free-from p e q t h = rw (← h, t, q, e)
 
   module _ (J : Job) (L : Entries) where
@@ -85,7 +86,8 @@ module _ (b : Shape) (xs : List ℕ) (x : Bool) (s : ℕ) where
     latest-free-at p h = rw (latest-at, last-at p h)
 
     -- the first of these is the one chosen
-    pub chosen-first : (p : ℕ) → p ≤ countIn b x → ((q : ℕ) → q < p → latestFreeIn q ≡ false) → (p < countIn b x → latestFreeIn p ≡ true) → p ≡ chosenProcessor I Q c s
+    pub chosen-first : (p : ℕ) → p ≤ countIn b x → ((q : ℕ) → q < p → latestFreeIn q ≡ false) → (p < countIn b x → latestFreeIn p ≡ true)
+        → p ≡ chosenProcessor I Q c s
     unfolding chosenProcessor
     chosen-first p l before here =
         let n : sideOf I c .processors ≡ countIn b x = processors-of b J x in

@@ -1,4 +1,4 @@
--- `chosen_processor` meets its contract. The invariant: none of the processors passed suits.
+-- `chosen_processor` meets its contract. The invariant: none of the processors passed is the one.
 use Prim.Native.Nat.{ℕ, _≤_, _<_, _-_}
 use mathlib.Core.Bool.{false}
 use mathlib.Core.Path.{_≡_}
