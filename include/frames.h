@@ -17,7 +17,8 @@
 extern "C" {
 #endif
 
-/* The longest text that is read, in bytes. No timetable of a planner is longer, so a buffer of this length is never too short. */
+/* The longest text that is read, in bytes. No timetable of a planner is longer (proved: `PlansShort` of crates/rules), so a buffer of this length is
+ * never too short. */
 #define FRAMES_MAX_TEXT 32768
 
 /* Stack that is enough for any call, in bytes. On the largest sheet (64 tasks, 256 files) a planner used 15 KB and the marker, with every file

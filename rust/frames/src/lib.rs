@@ -52,7 +52,7 @@ extern "C" {
     );
 }
 
-/// The longest text that is read, in bytes; no timetable of a planner is longer.
+/// The longest text that is read, in bytes; no timetable of a planner is longer (proved: `PlansShort` of crates/rules).
 pub const MAX_TEXT: usize = 32_768;
 
 /// What the marker answers.
