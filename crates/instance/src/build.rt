@@ -92,14 +92,14 @@ fn ascending(shape: Shape, job: &[u64; layout::JOB], i: u64, j: u64) -> bool
         return true;
     }
     let last = shape.files - 1;
-    let maker = layout::maker(job, last);
+    let maker = layout::stored_maker(job, last);
     if maker < i {
         return true;
     }
     if maker != i {
         return false;
     }
-    layout::reader(job, last) < j
+    layout::stored_reader(job, last) < j
 }
 
 // Whether a file from task i to task j, counted from 1, may come next.

@@ -25,8 +25,8 @@ pub fn moves<'a>(
     requires { ⌜ k < shape .files ⌝ }
     ensures { λ r. ⌜ r ≡ moved (instanceOf shape (now (job .entry))) (scheduleOf shape (now (schedule .entry))) k ⌝ }
 {
-    let m = layout::maker(job, k) as usize;
-    let d = layout::reader(job, k) as usize;
+    let m = layout::maker(shape, job, k) as usize;
+    let d = layout::reader(shape, job, k) as usize;
     !same_colour(
         layout::on_blue(shape, schedule, m),
         layout::on_blue(shape, schedule, d),
@@ -47,8 +47,8 @@ pub fn crossing_file<'a>(
     ensures { λ r. ⌜ r ≡
         crossing (instanceOf shape (now (job .entry))) (scheduleOf shape (now (schedule .entry))) task (colourBy colour) k ⌝ }
 {
-    if layout::reader(job, k) == task {
-        let m = layout::maker(job, k) as usize;
+    if layout::reader(shape, job, k) == task {
+        let m = layout::maker(shape, job, k) as usize;
         !same_colour(layout::on_blue(shape, schedule, m), colour)
     } else {
         false

@@ -49,38 +49,40 @@ pub fn run_time(job: &[u64; JOB], i: usize, colour: bool) -> u64
     select(colour, job[i], job[ON_RED + i])
 }
 
-pub fn maker(job: &[u64; JOB], k: usize) -> u64
+// The maker of file k as stored: nothing is known of it yet.
+pub fn stored_maker(job: &[u64; JOB], k: usize) -> u64
     requires { ⌜ k < maxFiles ⌝ }
     ensures { λ r. ⌜ r ≡ jobOf (now (job .entry)) .maker k ⌝ }
 {
     job[MAKER + k]
 }
 
-pub fn reader(job: &[u64; JOB], k: usize) -> u64
+// The reader of file k, likewise.
+pub fn stored_reader(job: &[u64; JOB], k: usize) -> u64
     requires { ⌜ k < maxFiles ⌝ }
     ensures { λ r. ⌜ r ≡ jobOf (now (job .entry)) .reader k ⌝ }
 {
     job[READER + k]
 }
 
-// The task that makes file k of an instance in its bounds: it exists.
-pub fn making_task(shape: Shape, job: &[u64; JOB], k: usize) -> u64
+// The maker of file k of an instance in its bounds: the task exists.
+pub fn maker(shape: Shape, job: &[u64; JOB], k: usize) -> u64
     requires { ⌜ JobInBounds shape (now job) ⌝ }
     requires { ⌜ k < shape .files ⌝ }
     ensures { λ r. ⌜ r ≡ jobOf (now (job .entry)) .maker k ⌝ }
     ensures { λ r. ⌜ r < shape .tasks ⌝ }
 {
-    maker(job, k)
+    stored_maker(job, k)
 }
 
-// The task that reads file k, likewise.
-pub fn reading_task(shape: Shape, job: &[u64; JOB], k: usize) -> u64
+// The reader of file k, likewise.
+pub fn reader(shape: Shape, job: &[u64; JOB], k: usize) -> u64
     requires { ⌜ JobInBounds shape (now job) ⌝ }
     requires { ⌜ k < shape .files ⌝ }
     ensures { λ r. ⌜ r ≡ jobOf (now (job .entry)) .reader k ⌝ }
     ensures { λ r. ⌜ r < shape .tasks ⌝ }
 {
-    reader(job, k)
+    stored_reader(job, k)
 }
 
 pub fn size(job: &[u64; JOB], k: usize) -> u64

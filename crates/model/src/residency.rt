@@ -97,8 +97,8 @@ pub fn file_times<'a>(
     ensures { λ r. ⌜ TimesOf (instanceOf shape (now (job .entry))) (scheduleOf shape (now (schedule .entry))) k r ⌝ }
     ensures { λ r. ⌜ TimesWithin lastTick r ⌝ }
 {
-    let m = layout::maker(job, k) as usize;
-    let d = layout::reader(job, k) as usize;
+    let m = layout::maker(shape, job, k) as usize;
+    let d = layout::reader(shape, job, k) as usize;
     let departs = layout::move_start(schedule, k);
     FileTimes {
         moves: moves(shape, job, schedule, k),
@@ -152,8 +152,8 @@ pub fn hold_of<'a>(
         holdOf (instanceOf shape (now (job .entry))) (scheduleOf shape (now (schedule .entry))) (colourBy colour) k ⌝ }
     ensures { λ r. ⌜ Within lastTick r ⌝ }
 {
-    let m = layout::maker(job, k) as usize;
-    let d = layout::reader(job, k) as usize;
+    let m = layout::maker(shape, job, k) as usize;
+    let d = layout::reader(shape, job, k) as usize;
     hold_when(
         0 < layout::processor(schedule, m),
         0 < layout::processor(schedule, d),

@@ -26,9 +26,10 @@ fn heaviest_reader<'a>(
     let mut most: u64 = 0;
     let mut k: usize = 0;
     while k < shape.files {
-        let d = layout::reader(job, k) as usize;
+        let d = layout::reader(shape, job, k) as usize;
         let path = layout::move_time(job, k) + weights[d];
-        most = greater(most, value_if(layout::maker(job, k) == i as u64, path));
+        let makes = layout::maker(shape, job, k) == i as u64;
+        most = greater(most, value_if(makes, path));
         k += 1;
     }
     most

@@ -141,8 +141,8 @@ fn read_moves<'a>(
     let mut i: usize = 0;
     while i < shape.files {
         if crossing::moves(shape, job, schedule, i) {
-            let maker = layout::making_task(shape, job, i);
-            let reader = layout::reading_task(shape, job, i);
+            let maker = layout::maker(shape, job, i);
+            let reader = layout::reader(shape, job, i);
             match move_at(shape, paper, at, maker, reader) {
                 MoveRead::Refused(fault) => return Progress::Refused(fault, k),
                 MoveRead::Start(start, next) => {

@@ -77,8 +77,8 @@ fn moves_size<'a>(
     let mut k: usize = 0;
     while k < shape.files {
         if crossing::moves(shape, job, schedule, k) {
-            let maker = layout::making_task(shape, job, k);
-            let reader = layout::reading_task(shape, job, k);
+            let maker = layout::maker(shape, job, k);
+            let reader = layout::reader(shape, job, k);
             n += move_size(maker + 1, reader + 1, layout::move_start(schedule, k));
             k += 1;
         } else {

@@ -77,8 +77,8 @@ fn write_moves<'a>(
     let mut k: usize = 0;
     while k < shape.files {
         if crossing::moves(shape, job, schedule, k) {
-            let maker = layout::making_task(shape, job, k);
-            let reader = layout::reading_task(shape, job, k);
+            let maker = layout::maker(shape, job, k);
+            let reader = layout::reader(shape, job, k);
             let start = layout::move_start(schedule, k);
             let n = write_move(&mut out[at..], maker + 1, reader + 1, start);
             at += n;

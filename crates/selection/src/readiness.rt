@@ -28,8 +28,8 @@ fn missing<'a>(
     requires { ⌜ k < shape .files ⌝ }
     ensures { λ r. ⌜ r ≡ rules-missing (instanceOf shape (now (job .entry))) (scheduleOf shape (now (schedule .entry))) task k ⌝ }
 {
-    if layout::reader(job, k) == task {
-        let m = layout::maker(job, k) as usize;
+    if layout::reader(shape, job, k) == task {
+        let m = layout::maker(shape, job, k) as usize;
         !placed(schedule, m)
     } else {
         false

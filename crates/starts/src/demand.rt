@@ -36,8 +36,8 @@ fn with_file<'a>(
     ensures { λ r. ⌜ DemandBelow (instanceOf shape (now (job .entry))) (scheduleOf shape (now (schedule .entry))) task (colourBy colour) (k + 1) r ⌝ }
     ensures { λ r. ⌜ DemandBounds (k + 1) r ⌝ }
 {
-    let maker = layout::maker(job, k);
-    let reader = layout::reader(job, k);
+    let maker = layout::maker(shape, job, k);
+    let reader = layout::reader(shape, job, k);
     let size = layout::size(job, k);
     let crosses = crossing_file(shape, job, schedule, k, task, colour);
     let time = value_if(crosses, layout::move_time(job, k));

@@ -56,7 +56,8 @@ pub fn first_early<'a>(
     let mut i: usize = 0;
     while i < shape.files {
         let is_early = early_file(shape, job, schedule, i);
-        first = lesser(first, select(is_early, layout::reader(job, i), tasks));
+        let reader = layout::reader(shape, job, i);
+        first = lesser(first, select(is_early, reader, tasks));
         i += 1;
     }
     first

@@ -18,34 +18,37 @@ returns c =
 sub-last : tie.Need-sub-last
 sub-last c = search needs
 
-maker-requires : tie.Need-maker-requires
-maker-requires c κs = search needs
+stored-maker-requires : tie.Need-stored-maker-requires
+stored-maker-requires c κs = search needs
 
 returns-2 : tie.Need-returns-2
 returns-2 c =
-    let s = c .before .before .before .before .before in
-    let a = s .args in
-    let J = jobOf (now (a .job)) in
-    sym (ascends-by (a .shape) J (a .i) (a .j) (c .before .before .before .if1 .left) _ _ (c .before .maker .ensures) refl ∙ simp (lt-ltb _ _ (c .if2 .taken)))
+    let m = c .before in
+    let x = m .before .before in
+    let a = x .before .before .args in
+    let e = ascends-by (a .shape) (jobOf (now (a .job))) (a .i) (a .j) (x .if1 .left) _ _ (m .stored-maker .ensures) refl in
+    sym (e ∙ simp (lt-ltb _ _ (c .if2 .taken)))
 
 returns-3 : tie.Need-returns-3
 returns-3 c =
-    let s = c .before .before .before .before .before .before in
-    let a = s .args in
-    let J = jobOf (now (a .job)) in
-    sym (ascends-by (a .shape) J (a .i) (a .j) (c .before .before .before .before .if1 .left) _ _ (c .before .before .maker .ensures) refl ∙ simp (le-ltb _ _ (c .before .if2 .left), ne-eqb _ _ (c .if3 .taken)))
+    let m = c .before .before in
+    let x = m .before .before in
+    let a = x .before .before .args in
+    let e = ascends-by (a .shape) (jobOf (now (a .job))) (a .i) (a .j) (x .if1 .left) _ _ (m .stored-maker .ensures) refl in
+    sym (e ∙ simp (le-ltb _ _ (c .before .if2 .left), ne-eqb _ _ (c .if3 .taken)))
 
-reader-requires : tie.Need-reader-requires
-reader-requires c κs = search needs
+stored-reader-requires : tie.Need-stored-reader-requires
+stored-reader-requires c κs = search needs
 
 returns-4 : tie.Need-returns-4
 returns-4 c =
-    let s = c .before .before .before .before .before .before .before in
-    let a = s .args in
-    let J = jobOf (now (a .job)) in
-    sym (ascends-by (a .shape) J (a .i) (a .j) (c .before .before .before .before .before .if1 .left) _ _ (c .before .before .before .maker .ensures) (c .reader .ensures) ∙ simp (le-ltb _ _ (c .before .before .if2 .left), eq-eqb _ _ (c .before .if3 .left)))
+    let m = c .before .before .before in
+    let x = m .before .before in
+    let a = x .before .before .args in
+    let e = ascends-by (a .shape) (jobOf (now (a .job))) (a .i) (a .j) (x .if1 .left) _ _ (m .stored-maker .ensures) (c .stored-reader .ensures) in
+    sym (e ∙ simp (le-ltb _ _ (c .before .before .if2 .left), eq-eqb _ _ (c .before .if3 .left)))
 
 pub ascending-spec : {M : Type 1} → statement M
 ascending-spec =
     tie.close
-    (tie.spec returns sub-last maker-requires returns-2 returns-3 reader-requires returns-4)
+    (tie.spec returns sub-last stored-maker-requires returns-2 returns-3 stored-reader-requires returns-4)

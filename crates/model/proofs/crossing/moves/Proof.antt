@@ -1,5 +1,4 @@
 -- `moves` meets its contract.
-use native.Mathlib.Omega.{arith}
 use Rattle.model.specs.Layout.{entriesOf}
 use Rattle.model.proofs.FileLaws.{moves-from}
 use borrow.Author.Needs.{needs}
@@ -13,10 +12,10 @@ reader-requires : tie.Need-reader-requires
 reader-requires c κs = search needs
 
 on-blue-requires : tie.Need-on-blue-requires
-on-blue-requires c κs = let s = c .before .before in omega (arith, s .pre .0 .maker (s .args .k) (s .pre .1), s .pre .0 .tasks)
+on-blue-requires c κs = search needs
 
 on-blue-requires-2 : tie.Need-on-blue-requires-2
-on-blue-requires-2 c κs = let s = c .before .before .before in omega (arith, s .pre .0 .reader (s .args .k) (s .pre .1), s .pre .0 .tasks)
+on-blue-requires-2 c κs = search needs
 
 same-colour-requires : tie.Need-same-colour-requires
 same-colour-requires c κs = search needs
@@ -26,7 +25,7 @@ returns c =
     let d = c .before .before .before in
     let m = d .before in
     let s = m .before in
-    moves-from (s .pre .0) (entriesOf (s .args .schedule .now)) (s .pre .1) (m .maker .ensures) (d .reader .ensures)
+    moves-from (s .pre .0) (entriesOf (s .args .schedule .now)) (s .pre .1) (m .maker .ensures .0) (d .reader .ensures .0)
     (c .before .before .on-blue .ensures) (c .before .on-blue2 .ensures) (c .same-colour .ensures)
 
 pub moves-spec : {M : Type 1} → statement M

@@ -1,5 +1,4 @@
 -- `file_times` meets its contract: what the accessors read are the times of the file.
-use Prim.Native.Nat.{_<_}
 use native.Mathlib.Omega.{arith}
 use Rattle.model.specs.Layout.{entriesOf}
 use Rattle.model.proofs.FileLaws.{times-from}
@@ -20,14 +19,10 @@ moves-requires : tie.Need-moves-requires
 moves-requires c κs = search needs
 
 start-requires : tie.Need-start-requires
-start-requires c κs =
-    let s = c .before .before .before .before in
-    omega (arith, s .pre .0 .job .maker (s .args .k) (s .pre .1), s .pre .0 .job .tasks)
+start-requires c κs = search needs
 
 finish-requires : tie.Need-finish-requires
-finish-requires c κs =
-    let s = c .before .before .before .before .before in
-    (s .pre .0, omega (arith, s .pre .0 .job .maker (s .args .k) (s .pre .1)))
+finish-requires c κs = search needs
 
 move-time-requires : tie.Need-move-time-requires
 move-time-requires c κs = search needs
@@ -38,14 +33,10 @@ add-t12 c =
     omega (arith, s .pre .0 .job .moveTime (s .args .k) (s .pre .1), s .pre .0 .schedule .moveStart (s .args .k) (s .pre .1))
 
 start-requires-2 : tie.Need-start-requires-2
-start-requires-2 c κs =
-    let s = c .before .before .before .before .before .before .before in
-    omega (arith, s .pre .0 .job .reader (s .args .k) (s .pre .1), s .pre .0 .job .tasks)
+start-requires-2 c κs = search needs
 
 release-requires : tie.Need-release-requires
-release-requires c κs =
-    let s = c .before .before .before .before .before .before .before .before in
-    (s .pre .0, omega (arith, s .pre .0 .job .reader (s .args .k) (s .pre .1)))
+release-requires c κs = search needs
 
 returns : tie.Need-returns
 returns c =
@@ -56,18 +47,16 @@ returns c =
     let m = d .before in
     let s = m .before in
     let k = s .args .k in
-    let h = s .pre .1 in
-    let maker : m .maker .result < s .args .shape .tasks = omega (arith, s .pre .0 .job .maker k h, m .maker .ensures) in
-    let reader : d .reader .result < s .args .shape .tasks = omega (arith, s .pre .0 .job .reader k h, d .reader .ensures) in (
-      times-from (s .pre .0 .job) (entriesOf (s .args .schedule .now)) h (m .maker .ensures) (d .reader .ensures)
+    let h = s .pre .1 in (
+      times-from (s .pre .0 .job) (entriesOf (s .args .schedule .now)) h (m .maker .ensures .0) (d .reader .ensures .0)
           (b .before .moves .ensures) (b .start .ensures) (t .before .finish .ensures .0) (v .move-start .ensures) (t .move-time .ensures)
           (c .before .start2 .ensures) (c .release .ensures .0),
       record {
-        begun = omega (arith, b .start .ensures, s .pre .0 .schedule .start _ maker);
+        begun = omega (arith, b .start .ensures, s .pre .0 .schedule .start _ (m .maker .ensures .1));
         made = t .before .finish .ensures .1;
         departs = omega (arith, v .move-start .ensures, s .pre .0 .schedule .moveStart k h);
         arrives = omega (arith, v .move-start .ensures, s .pre .0 .schedule .moveStart k h, t .move-time .ensures, s .pre .0 .job .moveTime k h);
-        starts = omega (arith, c .before .start2 .ensures, s .pre .0 .schedule .start _ reader);
+        starts = omega (arith, c .before .start2 .ensures, s .pre .0 .schedule .start _ (d .reader .ensures .1));
         released = c .release .ensures .1;
       },
     )

@@ -14,19 +14,13 @@ reader-requires : tie.Need-reader-requires
 reader-requires c κs = search needs
 
 processor-requires : tie.Need-processor-requires
-processor-requires c κs =
-    let s = c .before .before in
-    omega (arith, s .pre .0 .job .maker (s .args .k) (s .pre .1), s .pre .0 .job .tasks)
+processor-requires c κs = search needs
 
 processor-requires-2 : tie.Need-processor-requires-2
-processor-requires-2 c κs =
-    let s = c .before .before .before in
-    omega (arith, s .pre .0 .job .reader (s .args .k) (s .pre .1), s .pre .0 .job .tasks)
+processor-requires-2 c κs = search needs
 
 on-blue-requires : tie.Need-on-blue-requires
-on-blue-requires c κs =
-    let s = c .before .before .before .before in
-    omega (arith, s .pre .0 .job .maker (s .args .k) (s .pre .1), s .pre .0 .job .tasks)
+on-blue-requires c κs = search needs
 
 same-colour-requires : tie.Need-same-colour-requires
 same-colour-requires c κs = search needs
@@ -51,9 +45,9 @@ returns c =
     let times = c .before .file-times .ensures in (
       c .hold-when .ensures .0
           ∙ hold-from I (scheduleFrom (s .args .shape) L) (colourBy (s .args .colour)) (times .0)
-          (maker-placed f L h (m .maker .ensures) (p .processor .ensures))
-          (reader-placed f L h (d .reader .ensures) (x .before .processor2 .ensures))
-          (maker-here f L h (m .maker .ensures) (s .args .colour) (x .on-blue .ensures) (c .before .before .same-colour .ensures)),
+          (maker-placed f L h (m .maker .ensures .0) (p .processor .ensures))
+          (reader-placed f L h (d .reader .ensures .0) (x .before .processor2 .ensures))
+          (maker-here f L h (m .maker .ensures .0) (s .args .colour) (x .on-blue .ensures) (c .before .before .same-colour .ensures)),
       omega (arith, c .hold-when .ensures .1, times .1),
     )
 

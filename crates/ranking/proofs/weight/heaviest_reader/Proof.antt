@@ -24,38 +24,29 @@ loop-holds : tie.Need-loop-holds Inv-loop μ-loop
 loop-holds c = (omega arith, sym (max-none _))
 
 reader-requires : tie.Need-reader-requires Inv-loop μ-loop
-reader-requires c κs = let s = c .before .before .before in omega (arith, job-bounds (s .args .shape) (jobOf (s .args .job .now)) (s .pre .0) .files)
+reader-requires c κs = (job-bounds _ _ (c .before .before .before .pre .0), c .if1 .taken)
 
 move-time-requires : tie.Need-move-time-requires Inv-loop μ-loop
-move-time-requires c κs = let s = c .before .before .before .before in omega (arith, job-bounds (s .args .shape) (jobOf (s .args .job .now)) (s .pre .0) .files)
+move-time-requires c κs = omega (arith, job-bounds _ _ (c .before .before .before .before .pre .0) .files)
 
 mul-path : tie.Need-mul-path Inv-loop μ-loop
-mul-path c =
-    let s = c .before .before .before .before .before in
-    let f = job-bounds (s .args .shape) (jobOf (s .args .job .now)) (s .pre .0) in
-    omega (arith, f .tasks, f .reader (c .before .before .before .before .loop .k) (c .before .before .if1 .taken), c .before .reader .ensures)
+mul-path c = omega (arith, job-bounds _ _ (c .before .before .before .before .before .pre .0) .tasks)
 
 element-copy-out-path : tie.Need-element-copy-out-path Inv-loop μ-loop
-element-copy-out-path c =
-    let s = c .before .before .before .before .before in
-    let f = job-bounds (s .args .shape) (jobOf (s .args .job .now)) (s .pre .0) in
-    omega (arith, f .tasks, f .reader (c .before .before .before .before .loop .k) (c .before .before .if1 .taken), c .before .reader .ensures)
+element-copy-out-path c = omega (arith, job-bounds _ _ (c .before .before .before .before .before .pre .0) .tasks)
 
 add-path : tie.Need-add-path Inv-loop μ-loop
 add-path c =
     let s = c .before .before .before .before .before .before in
-    let f = job-bounds (s .args .shape) (jobOf (s .args .job .now)) (s .pre .0) in
     omega (
       arith,
-      f .moveTime (c .before .before .before .before .before .loop .k) (c .before .before .before .if1 .taken),
+      job-bounds _ _ (s .pre .0) .moveTime (c .before .before .before .before .before .loop .k) (c .before .before .before .if1 .taken),
       c .before .move-time .ensures,
       s .pre .1 .bounded (c .before .before .reader .result),
     )
 
 maker-requires : tie.Need-maker-requires Inv-loop μ-loop
-maker-requires c κs =
-    let s = c .before .before .before .before .before .before in
-    omega (arith, job-bounds (s .args .shape) (jobOf (s .args .job .now)) (s .pre .0) .files, c .before .before .before .if1 .taken)
+maker-requires c κs = (job-bounds _ _ (c .before .before .before .before .before .before .pre .0), c .before .before .before .if1 .taken)
 
 value-if-requires : tie.Need-value-if-requires Inv-loop μ-loop
 value-if-requires c κs = search needs
@@ -75,8 +66,8 @@ loop-again c =
     let h = c .before .before .before .before .before .before .if1 .taken in
     omega (
       arith,
-      reader-turn (s .args .shape) (jobOf (s .args .job .now)) (s .pre .0) (s .args .i) (s .pre .1) h (c .before .before .maker .ensures)
-          (c .before .before .before .before .before .reader .ensures) (c .before .before .before .before .move-time .ensures)
+      reader-turn (s .args .shape) (jobOf (s .args .job .now)) (s .pre .0) (s .args .i) (s .pre .1) h (c .before .before .maker .ensures .0)
+          (c .before .before .before .before .before .reader .ensures .0) (c .before .before .before .before .move-time .ensures)
           (c .before .value-if .ensures .0),
     )
 

@@ -20,11 +20,11 @@ loop-holds c = moves-start _ _ _ _ _ _ (c .before .pre .1 .0)
 moves-requires : tie.Need-moves-requires Inv-loop μ-loop
 moves-requires c κs = search needs
 
-making-task-requires : tie.Need-making-task-requires Inv-loop μ-loop
-making-task-requires c κs = search needs
+maker-requires : tie.Need-maker-requires Inv-loop μ-loop
+maker-requires c κs = search needs
 
-reading-task-requires : tie.Need-reading-task-requires Inv-loop μ-loop
-reading-task-requires c κs = search needs
+reader-requires : tie.Need-reader-requires Inv-loop μ-loop
+reader-requires c κs = search needs
 
 move-at-requires : tie.Need-move-at-requires Inv-loop μ-loop
 move-at-requires c κs =
@@ -43,7 +43,7 @@ returns c =
     let l = x .before .before .before .before in
     let h = x .before .before .if1 .taken in
     let e = moved-so-far (l .loop .inv) (x .moves .ensures) (m .before .if2 .taken) in
-    (moves-refused (l .loop .inv) h e (m .making-task .ensures .0) (d .reading-task .ensures .0) _ (o .move-at .ensures _) _ (c .before .fault .given .1), tt)
+    (moves-refused (l .loop .inv) h e (m .maker .ensures .0) (d .reader .ensures .0) _ (o .move-at .ensures _) _ (c .before .fault .given .1), tt)
 
 enum-known-start : tie.Need-enum-known-start Inv-loop μ-loop
 enum-known-start c = search needs
@@ -73,7 +73,7 @@ loop-again c =
     let l = x .before .before .before .before in
     let h = x .before .before .if1 .taken in
     let e = moved-so-far (l .loop .inv) (x .moves .ensures) (m .before .if2 .taken) in
-    moves-next (l .loop .inv) h e (m .making-task .ensures .0) (d .reading-task .ensures .0) _ (o .move-at .ensures _) _ _ (c .before .before .before .start .given .1)
+    moves-next (l .loop .inv) h e (m .maker .ensures .0) (d .reader .ensures .0) _ (o .move-at .ensures _) _ _ (c .before .before .before .start .given .1)
     (l .before .before .pre .0) (c .set-move-start .ensures .1 .0) _ (c .set-move-start .ensures .0)
 
 set-move-start-requires-2 : tie.Need-set-move-start-requires-2 Inv-loop μ-loop
@@ -109,8 +109,8 @@ read-moves-spec =
     μ-loop
     loop-holds
     moves-requires
-    making-task-requires
-    reading-task-requires
+    maker-requires
+    reader-requires
     move-at-requires
     enum-known-fault
     returns

@@ -24,11 +24,11 @@ loop-holds c = counted-none _ _ (moves-none _ _)
 moves-requires : tie.Need-moves-requires Inv-loop μ-loop
 moves-requires c κs = search needs
 
-making-task-requires : tie.Need-making-task-requires Inv-loop μ-loop
-making-task-requires c κs = search needs
+maker-requires : tie.Need-maker-requires Inv-loop μ-loop
+maker-requires c κs = search needs
 
-reading-task-requires : tie.Need-reading-task-requires Inv-loop μ-loop
-reading-task-requires c κs = search needs
+reader-requires : tie.Need-reader-requires Inv-loop μ-loop
+reader-requires c κs = search needs
 
 add-move-size : tie.Need-add-move-size Inv-loop μ-loop
 add-move-size c = search needs
@@ -64,7 +64,7 @@ loop-again c =
     let J = jobOf (now (s .args .job)) in
     let L = entriesOf (now (s .args .schedule)) in
     let e = moved-is (instanceFrom (s .args .shape) J) (scheduleFrom (s .args .shape) L) (l .loop .k) (x .moves .ensures) (m .before .if2 .taken) in
-    let piece = move-piece (s .args .shape) J L h _ _ _ (m .making-task .ensures .0) (d .reading-task .ensures .0) (c .before .move-start .ensures) e in
+    let piece = move-piece (s .args .shape) J L h _ _ _ (m .maker .ensures .0) (d .reader .ensures .0) (c .before .move-start .ensures) e in
     counted-next _ _ (moves-grow _ _) (l .loop .inv) h _ piece _ (c .move-size .ensures .0) (c .move-size .ensures .1)
 
 add-k-2 : tie.Need-add-k-2 Inv-loop μ-loop
@@ -97,8 +97,8 @@ moves-size-spec =
     μ-loop
     loop-holds
     moves-requires
-    making-task-requires
-    reading-task-requires
+    maker-requires
+    reader-requires
     add-move-size
     add-move-size-2
     move-start-requires

@@ -25,11 +25,11 @@ loop-holds c = laid-none _ _ _ (moves-none _ _) (c .before .pre .1)
 moves-requires : tie.Need-moves-requires Inv-loop μ-loop
 moves-requires c κs = search needs
 
-making-task-requires : tie.Need-making-task-requires Inv-loop μ-loop
-making-task-requires c κs = search needs
+maker-requires : tie.Need-maker-requires Inv-loop μ-loop
+maker-requires c κs = search needs
 
-reading-task-requires : tie.Need-reading-task-requires Inv-loop μ-loop
-reading-task-requires c κs = search needs
+reader-requires : tie.Need-reader-requires Inv-loop μ-loop
+reader-requires c κs = search needs
 
 move-start-requires : tie.Need-move-start-requires Inv-loop μ-loop
 move-start-requires c κs = search needs
@@ -61,7 +61,7 @@ write-move-requires c κs =
     let J = jobOf (now (s .args .job)) in
     let L = entriesOf (now (s .args .schedule)) in
     let e = moved-is (instanceFrom (s .args .shape) J) (scheduleFrom (s .args .shape) L) (l .loop .k) (x .moves .ensures) (m .before .if2 .taken) in
-    let piece = move-piece (s .args .shape) J L h _ _ _ (m .making-task .ensures .0) (d .reading-task .ensures .0) (t .move-start .ensures) e in
+    let piece = move-piece (s .args .shape) J L h _ _ _ (m .maker .ensures .0) (d .reader .ensures .0) (t .move-start .ensures) e in
     laid-room _ _ (moves-grow _ _) (l .loop .inv) h _ piece
 
 add-k : tie.Need-add-k Inv-loop μ-loop
@@ -83,7 +83,7 @@ loop-again c =
     let J = jobOf (now (s .args .job)) in
     let L = entriesOf (now (s .args .schedule)) in
     let e = moved-is (instanceFrom (s .args .shape) J) (scheduleFrom (s .args .shape) L) (l .loop .k) (x .moves .ensures) (m .before .if2 .taken) in
-    let piece = move-piece (s .args .shape) J L h _ _ _ (m .making-task .ensures .0) (d .reading-task .ensures .0) (t .move-start .ensures) e in
+    let piece = move-piece (s .args .shape) J L h _ _ _ (m .maker .ensures .0) (d .reader .ensures .0) (t .move-start .ensures) e in
     laid-next _ _ (moves-grow _ _) (l .loop .inv) h _ piece _ _ (w .write-move .ensures)
 
 add-at : tie.Need-add-at Inv-loop μ-loop
@@ -122,8 +122,8 @@ write-moves-spec =
     μ-loop
     loop-holds
     moves-requires
-    making-task-requires
-    reading-task-requires
+    maker-requires
+    reader-requires
     move-start-requires
     sub-write-move
     part-write-move-start

@@ -25,9 +25,7 @@ value-if-requires : tie.Need-value-if-requires
 value-if-requires c κs = search needs
 
 finish-requires : tie.Need-finish-requires
-finish-requires c κs =
-    let s = c .before .before .before .before .before .before in
-    (s .pre .0, omega (arith, s .pre .0 .job .maker (s .args .k) (s .pre .1 .0), c .before .before .before .before .before .maker .ensures))
+finish-requires c κs = search needs
 
 add-arrives : tie.Need-add-arrives
 add-arrives c =
@@ -71,7 +69,7 @@ returns c =
     let size = s .pre .0 .job .size (a .k) (s .pre .1 .0) in
     let time = s .pre .0 .job .moveTime (a .k) (s .pre .1 .0) in (
       demand-next (a .shape) (jobOf (a .job .now)) (entriesOf (a .schedule .now)) (a .task) (colourBy (a .colour)) (s .pre .1 .0) (s .pre .1 .1 .0)
-          (reads .before .before .before .maker .ensures) (reads .before .before .reader .ensures) (reads .before .size .ensures)
+          (reads .before .before .before .maker .ensures .0) (reads .before .before .reader .ensures .0) (reads .before .size .ensures)
           (reads .crossing-file .ensures) (times .before .move-time .ensures) (times .value-if .ensures .0) (sums .before .finish .ensures .0)
           (sums .value-if2 .ensures .0) (last .before .before .value-if3 .ensures .0) (last .value-if4 .ensures .0)
           (c .before .greater .ensures) (c .greater2 .ensures),

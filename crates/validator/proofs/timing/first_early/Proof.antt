@@ -47,7 +47,7 @@ loop-again c =
     let x = d .before in
     let s = x .before .before .before .before in
     let h = x .before .if1 .taken in
-    omega (arith, early-turn (s .pre) h (s .args .shape .tasks) (x .early-file .ensures) (d .reader .ensures) (c .before .select .ensures .0))
+    omega (arith, early-turn (s .pre) h (s .args .shape .tasks) (x .early-file .ensures) (d .reader .ensures .0) (c .before .select .ensures .0))
 
 returns : tie.Need-returns Inv-loop μ-loop
 returns c = let s = c .before .before .before in
