@@ -30,7 +30,14 @@ use Rattle.instance.specs.Lines.{asReading}
 use Rattle.instance.proofs.line.Line.{the-type}
 
 -- ---- the first line
-pub begun : (b : Board) (J : Job) → instanceFrom (record { tasks = 0; files = 0; board = b }) J ≡ record { blueSide = sideFrom (b .blue); redSide = sideFrom (b .red); tasks = []; files = [] }
+pub begun : (b : Board) (J : Job)
+    → instanceFrom (record { tasks = 0; files = 0; board = b }) J ≡ record {
+      blueSide = sideFrom (b .blue);
+      redSide = sideFrom
+          (b .red);
+      tasks = [];
+      files = [];
+    }
 unfolding instanceFrom listBelow
 begun b J = refl
 
@@ -57,7 +64,8 @@ module _ (b : Shape) (J : Job) where
   none-is-2 : OneOf (0 ∷ 1 ∷ 3 ∷ 4 ∷ []) 2 → ⊥
   none-is-2 = ⊎-elim (λ e. omega arith) (⊎-elim (λ e. omega arith) (⊎-elim (λ e. omega arith) (λ e. omega arith)))
 
-  pub neither : (l : Line) → OneOf (0 ∷ 2 ∷ 3 ∷ 4 ∷ []) (tagOf the-type l) → OneOf (0 ∷ 1 ∷ 3 ∷ 4 ∷ []) (tagOf the-type l) → wrong (faultOf (asReading l)) ≡ due (withLine I) (asReading l)
+  pub neither : (l : Line) → OneOf (0 ∷ 2 ∷ 3 ∷ 4 ∷ []) (tagOf the-type l) → OneOf (0 ∷ 1 ∷ 3 ∷ 4 ∷ []) (tagOf the-type l)
+      → wrong (faultOf (asReading l)) ≡ due (withLine I) (asReading l)
   neither (BoardLine b) g h = refl
   neither (TaskLine i b r) g h = absurd (none-is-1 g)
   neither (FileLine i j f c) g h = absurd (none-is-2 h)

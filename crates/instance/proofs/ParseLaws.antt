@@ -22,18 +22,21 @@ asChecked (Within b) = right (boardLine (sideFrom (b .blue)) (sideFrom (b .red))
 asChecked OutOfRange = wrong outOfRange
 
 four-tests : (a b c d : Bool) (s t : Side)
-    → asChecked (cond ((a && b) && (c && d)) (Within (record { blue = s; red = t })) OutOfRange) ≡ ifInRange (a && b && c && d) (boardLine (sideFrom s) (sideFrom t))
+    → asChecked (cond ((a && b) && (c && d)) (Within (record { blue = s; red = t })) OutOfRange) ≡ ifInRange (a && b && c && d)
+    (boardLine (sideFrom s) (sideFrom t))
 four-tests false b c d s t = refl
 four-tests true false c d s t = refl
 four-tests true true false d s t = refl
 four-tests true true true false s t = refl
 four-tests true true true true s t = refl
 
-pub board-checked : (p m q l : ℕ) → asChecked (checkedBoard (record { processors = p; limit = m }) (record { processors = q; limit = l })) ≡ asBoard (p ∷ m ∷ q ∷ l ∷ [])
+pub board-checked : (p m q l : ℕ)
+    → asChecked (checkedBoard (record { processors = p; limit = m }) (record { processors = q; limit = l })) ≡ asBoard (p ∷ m ∷ q ∷ l ∷ [])
 board-checked p m q l = four-tests (inRange processorCounts p) (inRange memoryLimits m) (inRange processorCounts q) (inRange memoryLimits l) _ _
 
 -- ---- a form that the line has, and one that it does not have
-module _ (f : List ℕ → Reading InstanceLine) (by-four : (vs : List ℕ) → f vs ≡ f (getD vs 0 0 ∷ getD vs 1 0 ∷ getD vs 2 0 ∷ getD vs 3 0 ∷ [])) (other : Reading InstanceLine) where
+module _ (f : List ℕ → Reading InstanceLine) (by-four : (vs : List ℕ) → f vs ≡ f (getD vs 0 0 ∷ getD vs 1 0 ∷ getD vs 2 0 ∷ getD vs 3 0 ∷ []))
+    (other : Reading InstanceLine) where
   form-found : (o : Option (List ℕ)) {a b c d : ℕ} → numbersOf o ≡ Are a b c d → orElse f o other ≡ f (a ∷ b ∷ c ∷ d ∷ [])
   form-found none e = let z : _≡_ {A = ℕ} 0 1 = cc in absurd (omega arith)
   form-found (some vs) e = let s = by-four vs in cc
@@ -55,9 +58,11 @@ module _ (l : List ℕ) {a b c d : ℕ} where
     pub says-file : numbersOf (scan taskForm l) ≡ Not → numbersOf (scan fileForm l) ≡ Are a b c d → instanceLine (ended l) ≡ asFile (a ∷ b ∷ c ∷ d ∷ [])
     unfolding instanceLine
     says-file no-task e =
-        rw (form-missed asBoard _ (scan boardForm l) no-board, form-missed asTask _ (scan taskForm l) no-task) (form-found asFile (λ vs. refl) _ (scan fileForm l) e)
+        rw (form-missed asBoard _ (scan boardForm l) no-board, form-missed asTask _ (scan taskForm l) no-task)
+        (form-found asFile (λ vs. refl) _ (scan fileForm l) e)
 
-pub says-nothing : (l : List ℕ) → numbersOf (scan boardForm l) ≡ Not → numbersOf (scan taskForm l) ≡ Not → numbersOf (scan fileForm l) ≡ Not → instanceLine (ended l) ≡ wrong malformed
+pub says-nothing : (l : List ℕ) → numbersOf (scan boardForm l) ≡ Not → numbersOf (scan taskForm l) ≡ Not → numbersOf (scan fileForm l) ≡ Not
+    → instanceLine (ended l) ≡ wrong malformed
 unfolding instanceLine
 says-nothing l no-board no-task no-file =
     rw (form-missed asBoard _ (scan boardForm l) no-board, form-missed asTask _ (scan taskForm l) no-task, form-missed asFile _ (scan fileForm l) no-file)

@@ -91,7 +91,8 @@ module _ {begun : Shape} {sheet old : List ℕ} {shape : Shape} {xs rest : List 
         → refused w k ≡ readRest (instanceFrom begun (jobOf old)) 2 (linesOf sheet)
     reading-refused w d = sym (turn _ refl ∙ rest-wrong _ k (ended line) _ w (sym d))
 
-    pub reading-next : (b : Shape) (ys : List ℕ) → right (instanceFrom b (jobOf ys)) ≡ due (withLine (instanceFrom shape (jobOf xs))) (instanceLine (ended line)) → Room b
+    pub reading-next : (b : Shape) (ys : List ℕ)
+        → right (instanceFrom b (jobOf ys)) ≡ due (withLine (instanceFrom shape (jobOf xs))) (instanceLine (ended line)) → Room b
         → Reading begun sheet old b ys (take (length rest - (length line + 1)) (drop (length line + 1) rest)) (k + 1)
     reading-next b ys d r =
         record {

@@ -14,7 +14,8 @@ use Rattle.rules.specs.BoardType.{sideFrom}
 use Rattle.rules.specs.InstanceText.{withTask, withFile}
 use Rattle.rules.proofs.CountLaws.{list-cong}
 use Rattle.model.specs.declared.layout.Shape.{Shape}
-use Rattle.model.specs.Layout.{jobOf, entriesOf, taskFrom, fileFrom, runFrom, instanceFrom, jobLength, scheduleLength, withTaskAt, withFileAt, withRunAt, withMoveAt}
+use Rattle.model.specs.Layout.{jobOf, entriesOf, taskFrom, fileFrom, runFrom, instanceFrom, jobLength, scheduleLength, withTaskAt, withFileAt, withRunAt}
+use Rattle.model.specs.Layout.{withMoveAt}
 
 -- a list by index, with one element more
 list-next : {A : Type 0} (n : ℕ) (f g : ℕ → A) (a : A) → ((k : ℕ) → k < n → f k ≡ g k) → f n ≡ a → listBelow (suc n) f ≡ listBelow n g ++ (a ∷ [])

@@ -12,7 +12,8 @@ use lib.ListN.{drop}
 use Rattle.rules.specs.Model.{Instance, taskCount, fileCount, fileAt, Run, Schedule, moved}
 use Rattle.rules.specs.Validity.{Claim}
 use Rattle.rules.specs.Text.{Fault, malformed, Line, linesOf, Reading, wrong, right, due, faultOf}
-use Rattle.rules.specs.ScheduleText.{ScheduleLine, scheduleLine, runOf, moveOf, claimOf, ScheduleRead, refused, readEnd, readClaim, readMoves, readRuns, withRun, withMove}
+use Rattle.rules.specs.ScheduleText.{ScheduleLine, scheduleLine, runOf, moveOf, claimOf, ScheduleRead, refused, readEnd, readClaim, readMoves, readRuns}
+use Rattle.rules.specs.ScheduleText.{withRun, withMove}
 use Rattle.rules.proofs.ReadingLaws.{wrong-right}
 use Rattle.schedule.proofs.lines.Line.{the-type}
 use Rattle.schedule.specs.declared.lines.Line.{Line as Said}

@@ -34,7 +34,8 @@ use Rattle.schedule.specs.declared.reader.MoveRead.the-variants as Move
 use Rattle.model.specs.Claims.{asClaim}
 use Rattle.schedule.specs.Lines.{asReading}
 use Rattle.schedule.specs.Reading.{LineAt, Told, Taken, nothing, runsOf}
-use Rattle.schedule.proofs.DueLaws.{not-run, run-refused, run-taken, fileDue, not-move, move-refused, move-taken, move-passed, not-claim, claim-refused, claim-taken, end-refused}
+use Rattle.schedule.proofs.DueLaws.{not-run, run-refused, run-taken, fileDue, not-move, move-refused, move-taken, move-passed, not-claim, claim-refused}
+use Rattle.schedule.proofs.DueLaws.{claim-taken, end-refused}
 use Rattle.schedule.proofs.StoreLaws.{movesOf, run-stored, move-stored}
 
 -- ---- the claim
@@ -49,7 +50,8 @@ no-line-left : (bs : List ℕ) (at : ℕ) → length bs ≤ at → linesOf (drop
 no-line-left bs at h = ap linesOf (drop-of-length-le bs h) ∙ no-line
 
 module _ {I : Instance} {bs : List ℕ} {at next : ℕ} (said : Said) (o : LineAt I bs at (asReading said) next) (P : Schedule) (k : ℕ) where
-  pub claim-other : OneOf (0 ∷ 1 ∷ 3 ∷ 4 ∷ []) (tagOf the-type said) → (w : Fault) → w ≡ faultOf (asReading said) → refused w k ≡ readClaim I P k (linesOf (drop at bs))
+  pub claim-other : OneOf (0 ∷ 1 ∷ 3 ∷ 4 ∷ []) (tagOf the-type said) → (w : Fault) → w ≡ faultOf (asReading said)
+      → refused w k ≡ readClaim I P k (linesOf (drop at bs))
   claim-other h w e = ap (λ (v : Fault). refused v k) e ∙ sym (claim-refused o P k _ (not-claim said h))
 
   module _ (c : Numbers) (e : said ≡ Code.Claim c) where
@@ -229,7 +231,8 @@ module _ {b : Shape} {J : Job} {bs old schedule : List ℕ} {from line at k i : 
             few = omega (arith, q .few);
             left =
                 q .left ∙ move-taken (d .read) soFar k i in-files m t (ap (λ f. due f (d .line)) (sym (file-due maker reader u v)) ∙ d .due)
-                ∙ ap (λ P. readMoves JI (fileCount JI - suc i) P (suc k) (linesOf (drop next bs))) (sym (move-stored schedule long (omega (arith, bounds .files)) t (b .tasks) (bounds .tasks)));
+                ∙ ap (λ P. readMoves JI (fileCount JI - suc i) P (suc k) (linesOf (drop next bs)))
+                (sym (move-stored schedule long (omega (arith, bounds .files)) t (b .tasks) (bounds .tasks)));
           })
 
     pub moves-skip : moved JI soFar i ≡ false → JobBounds b J → length schedule ≡ scheduleLength → (new : List ℕ) → new ≡ withMoveAt schedule i 0
@@ -242,5 +245,6 @@ module _ {b : Shape} {J : Job} {bs old schedule : List ℕ} {from line at k i : 
           few = omega (arith, q .few);
           left =
               q .left ∙ move-passed JI soFar k i in-files m (linesOf (drop at bs))
-              ∙ ap (λ P. readMoves JI (fileCount JI - suc i) P k (linesOf (drop at bs))) (sym (move-stored schedule long (omega (arith, bounds .files)) 0 (b .tasks) (bounds .tasks)));
+              ∙ ap (λ P. readMoves JI (fileCount JI - suc i) P k (linesOf (drop at bs)))
+              (sym (move-stored schedule long (omega (arith, bounds .files)) 0 (b .tasks) (bounds .tasks)));
         })

@@ -14,7 +14,11 @@ enum-known-line : tie.Need-enum-known-line
 enum-known-line c = search needs
 
 add-task-requires : tie.Need-add-task-requires
-add-task-requires c κs = (c .before .before .before .before .pre .0, subst (λ (l : Line). Numbered l) (c .before .before .line .given .1) (c .before .before .before .before .pre .1))
+add-task-requires c κs = (
+  c .before .before .before .before .pre .0,
+  subst (λ (l : Line). Numbered l) (c .before .before .line .given .1)
+      (c .before .before .before .before .pre .1),
+)
 
 returns : tie.Need-returns
 returns c = (rw (c .before .before .before .line .given .1) (c .add-task .ensures .0), c .add-task .ensures .1)
@@ -33,7 +37,11 @@ returns-2 c =
     (ap wrong (c .fault-of .ensures) ∙ neither (a .shape) J (a .line) (c .before .before .match .keys2) (c .before .match2 .keys2), tt)
 
 add-file-requires : tie.Need-add-file-requires
-add-file-requires c κs = (c .before .before .before .before .before .pre .0, subst (λ (l : Line). Numbered l) (c .before .before .line2 .given .1) (c .before .before .before .before .before .pre .1))
+add-file-requires c κs = (
+  c .before .before .before .before .before .pre .0,
+  subst (λ (l : Line). Numbered l) (c .before .before .line2 .given .1)
+      (c .before .before .before .before .before .pre .1),
+)
 
 returns-3 : tie.Need-returns-3
 returns-3 c = (rw (c .before .before .before .line2 .given .1) (c .add-file .ensures .0), c .add-file .ensures .1)

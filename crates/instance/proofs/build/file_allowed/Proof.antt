@@ -36,14 +36,20 @@ returns-3 c =
     let s = c .before .before .before .before in
     let a = s .args in
     let J = jobOf (now (a .job)) in
-    sym (allowed-by (a .shape) J (a .i) (a .j) _ (c .before .ascending .ensures) ∙ simp (lt-ltb _ _ (c .before .before .before .if1 .left), le-leb _ _ (c .before .before .if2 .left), not-true (c .before .ascending .result) (c .if3 .taken)))
+    sym (allowed-by (a .shape) J (a .i) (a .j) _ (c .before .ascending .ensures) ∙ simp
+    (lt-ltb _ _ (c .before .before .before .if1 .left), le-leb _ _ (c .before .before .if2 .left), not-true (c .before .ascending .result) (c .if3 .taken)))
 
 returns-4 : tie.Need-returns-4
 returns-4 c =
     let s = c .before .before .before .before .before in
     let a = s .args in
     let J = jobOf (now (a .job)) in
-    sym (allowed-by (a .shape) J (a .i) (a .j) _ (c .before .before .ascending .ensures) ∙ simp (lt-ltb _ _ (c .before .before .before .before .if1 .left), le-leb _ _ (c .before .before .before .if2 .left), not-false (c .before .before .ascending .result) (c .before .if3 .left)))
+    sym (allowed-by (a .shape) J (a .i) (a .j) _ (c .before .before .ascending .ensures) ∙ simp (
+      lt-ltb _ _ (c .before .before .before .before .if1 .left),
+      le-leb _ _ (c .before .before .before .if2 .left),
+      not-false
+          (c .before .before .ascending .result) (c .before .if3 .left),
+    ))
 
 pub file-allowed-spec : {M : Type 1} → statement M
 file-allowed-spec =

@@ -26,7 +26,12 @@ returns-3 : tie.Need-returns-3
 returns-3 c =
     let b = c .before .before in
     let a = b .before .before in
-    simp (sym (a .before .is-task .ensures) ∙ not-false _ (a .if1 .left), sym (b .before .is-task2 .ensures) ∙ not-false _ (b .if2 .left), sym (c .before .between .ensures) ∙ not-true _ (c .if3 .taken))
+    simp (
+      sym (a .before .is-task .ensures) ∙ not-false _ (a .if1 .left),
+      sym (b .before .is-task2 .ensures) ∙ not-false _ (b .if2 .left),
+      sym
+          (c .before .between .ensures) ∙ not-true _ (c .if3 .taken),
+    )
 
 between-requires-2 : tie.Need-between-requires-2
 between-requires-2 c κs = search needs
@@ -36,14 +41,26 @@ returns-4 c =
     let d = c .before .before in
     let b = d .before .before in
     let a = b .before .before in
-    simp (sym (a .before .is-task .ensures) ∙ not-false _ (a .if1 .left), sym (b .before .is-task2 .ensures) ∙ not-false _ (b .if2 .left), sym (d .before .between .ensures) ∙ not-false _ (d .if3 .left), sym (c .before .between2 .ensures) ∙ not-true _ (c .if4 .taken))
+    simp (
+      sym (a .before .is-task .ensures) ∙ not-false _ (a .if1 .left),
+      sym (b .before .is-task2 .ensures) ∙ not-false _ (b .if2 .left),
+      sym
+          (d .before .between .ensures) ∙ not-false _ (d .if3 .left),
+      sym (c .before .between2 .ensures) ∙ not-true _ (c .if4 .taken),
+    )
 
 returns-5 : tie.Need-returns-5
 returns-5 c =
     let d = c .before .before in
     let b = d .before .before in
     let a = b .before .before in
-    simp (sym (a .before .is-task .ensures) ∙ not-false _ (a .if1 .left), sym (b .before .is-task2 .ensures) ∙ not-false _ (b .if2 .left), sym (d .before .between .ensures) ∙ not-false _ (d .if3 .left), sym (c .before .between2 .ensures) ∙ not-false _ (c .if4 .left))
+    simp (
+      sym (a .before .is-task .ensures) ∙ not-false _ (a .if1 .left),
+      sym (b .before .is-task2 .ensures) ∙ not-false _ (b .if2 .left),
+      sym
+          (d .before .between .ensures) ∙ not-false _ (d .if3 .left),
+      sym (c .before .between2 .ensures) ∙ not-false _ (c .if4 .left),
+    )
 
 pub file-of-spec : {M : Type 1} → statement M
 file-of-spec =

@@ -26,13 +26,23 @@ returns-3 : tie.Need-returns-3
 returns-3 c =
     let b = c .before .before in
     let a = b .before .before in
-    simp (sym (a .before .is-task .ensures) ∙ not-false _ (a .if1 .left), sym (b .before .is-run-time .ensures) ∙ not-false _ (b .if2 .left), sym (c .before .is-run-time2 .ensures) ∙ not-true _ (c .if3 .taken))
+    simp (
+      sym (a .before .is-task .ensures) ∙ not-false _ (a .if1 .left),
+      sym (b .before .is-run-time .ensures) ∙ not-false _ (b .if2 .left),
+      sym
+          (c .before .is-run-time2 .ensures) ∙ not-true _ (c .if3 .taken),
+    )
 
 returns-4 : tie.Need-returns-4
 returns-4 c =
     let b = c .before .before in
     let a = b .before .before in
-    simp (sym (a .before .is-task .ensures) ∙ not-false _ (a .if1 .left), sym (b .before .is-run-time .ensures) ∙ not-false _ (b .if2 .left), sym (c .before .is-run-time2 .ensures) ∙ not-false _ (c .if3 .left))
+    simp (
+      sym (a .before .is-task .ensures) ∙ not-false _ (a .if1 .left),
+      sym (b .before .is-run-time .ensures) ∙ not-false _ (b .if2 .left),
+      sym
+          (c .before .is-run-time2 .ensures) ∙ not-false _ (c .if3 .left),
+    )
 
 pub task-of-spec : {M : Type 1} → statement M
 task-of-spec =

@@ -20,7 +20,8 @@ first-line-requires : tie.Need-first-line-requires
 first-line-requires c κs = search needs
 
 returns-2 : tie.Need-returns-2
-returns-2 c = sheet-unended (now (c .before .before .before .before .args .sheet)) (c .before .before .if1 .left) _ (c .before .first-line .ensures) (c .if2 .taken)
+returns-2 c =
+    sheet-unended (now (c .before .before .before .before .args .sheet)) (c .before .before .if1 .left) _ (c .before .first-line .ensures) (c .if2 .taken)
 
 parse-requires : tie.Need-parse-requires
 parse-requires c κs = search needs
@@ -37,33 +38,50 @@ enum-known-shape c = search needs
 add-rest-of : tie.Need-add-rest-of
 add-rest-of c =
     let f = c .before .before .before .before .before .before .before in
-    omega (arith, first-short (now (f .before .before .before .args .sheet)) (f .before .if1 .left) _ (f .first-line .ensures) (c .before .before .before .before .before .before .if2 .left))
+    omega (
+      arith,
+      first-short (now (f .before .before .before .args .sheet)) (f .before .if1 .left) _ (f .first-line .ensures)
+          (c .before .before .before .before .before .before .if2 .left),
+    )
 
 sub-rest-of : tie.Need-sub-rest-of
 sub-rest-of c =
     let f = c .before .before .before .before .before .before .before in
-    omega (arith, first-short (now (f .before .before .before .args .sheet)) (f .before .if1 .left) _ (f .first-line .ensures) (c .before .before .before .before .before .before .if2 .left))
+    omega (
+      arith,
+      first-short (now (f .before .before .before .args .sheet)) (f .before .if1 .left) _ (f .first-line .ensures)
+          (c .before .before .before .before .before .before .if2 .left),
+    )
 
 part-rest-of-start : tie.Need-part-rest-of-start
 part-rest-of-start c =
     let f = c .before .before .before .before .before .before .before in
-    omega (arith, first-short (now (f .before .before .before .args .sheet)) (f .before .if1 .left) _ (f .first-line .ensures) (c .before .before .before .before .before .before .if2 .left))
+    omega (
+      arith,
+      first-short (now (f .before .before .before .args .sheet)) (f .before .if1 .left) _ (f .first-line .ensures)
+          (c .before .before .before .before .before .before .if2 .left),
+    )
 
 part-rest-of-end : tie.Need-part-rest-of-end
 part-rest-of-end c = search needs
 
 rest-of-requires : tie.Need-rest-of-requires
 rest-of-requires c κs =
-    let a = c .before .before .before .before .before .before in
-    (subst RoomIn (c .before .before .before .before .shape .given .1) (a .first .ensures .1), simp (length-take, length-drop) (omega (arith, c .before .before .before .before .before .before .before .before .before .before .if1 .left)))
+    let a = c .before .before .before .before .before .before in (
+      subst RoomIn (c .before .before .before .before .shape .given .1) (a .first .ensures .1),
+      simp (length-take, length-drop)
+          (omega (arith, c .before .before .before .before .before .before .before .before .before .before .if1 .left)),
+    )
 
 returns-3 : tie.Need-returns-3
 returns-3 c =
     let a = c .before .before .before in
     let p = a .before in
     let f = p .before .before in
-    sheet-refused (now (f .before .before .before .args .sheet)) (f .before .if1 .left) (now (f .first-line .result)) (f .first-line .ensures) (p .before .if2 .left) _
-    (told withBoard (p .parse .result) (now (f .first-line .result)) (a .first .result) _ [] (p .parse .ensures) (a .first .ensures .0 []) (c .before .fault .given .1))
+    sheet-refused (now (f .before .before .before .args .sheet)) (f .before .if1 .left) (now (f .first-line .result)) (f .first-line .ensures)
+    (p .before .if2 .left) _
+    (told withBoard (p .parse .result) (now (f .first-line .result)) (a .first .result) _ [] (p .parse .ensures) (a .first .ensures .0 [])
+    (c .before .fault .given .1))
 
 returns-4 : tie.Need-returns-4
 returns-4 c =
@@ -72,8 +90,10 @@ returns-4 c =
     let p = a .before in
     let f = p .before .before in
     c .rest-of .ensures
-    ∙ sheet-begun (now (f .before .before .before .args .sheet)) (f .before .if1 .left) (now (f .first-line .result)) (f .first-line .ensures) (p .before .if2 .left) _
-    (told withBoard (p .parse .result) (now (f .first-line .result)) (a .first .result) _ zs (p .parse .ensures) (a .first .ensures .0 zs) (c .before .before .before .before .before .shape .given .1))
+    ∙ sheet-begun (now (f .before .before .before .args .sheet)) (f .before .if1 .left) (now (f .first-line .result)) (f .first-line .ensures)
+    (p .before .if2 .left) _
+    (told withBoard (p .parse .result) (now (f .first-line .result)) (a .first .result) _ zs (p .parse .ensures) (a .first .ensures .0 zs)
+    (c .before .before .before .before .before .shape .given .1))
 
 pub read-spec : {M : Type 1} → statement M
 read-spec =

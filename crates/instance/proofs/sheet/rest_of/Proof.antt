@@ -6,7 +6,8 @@ use lib.ListN.{length, length-take, length-drop}
 use Rattle.rules.specs.InstanceText.{withLine}
 use Rattle.model.specs.Layout.{jobOf, instanceFrom}
 use Rattle.instance.specs.Steps.{RoomIn}
-use Rattle.instance.proofs.ReadLaws.{numbered, told, Reading, reading-start, reading-unended, line-short, reading-refused, reading-next, reading-absent, reading-done}
+use Rattle.instance.proofs.ReadLaws.{numbered, told, Reading, reading-start, reading-unended, line-short, reading-refused, reading-next, reading-absent}
+use Rattle.instance.proofs.ReadLaws.{reading-done}
 use borrow.Author.Needs.{needs}
 use Rattle.instance.proofs.sheet.rest_of.Statement.{statement}
 use Rattle.instance.proofs.sheet.rest_of.Tie as tie
@@ -30,7 +31,11 @@ parse-requires : tie.Need-parse-requires Inv-loop μ-loop
 parse-requires c κs = search needs
 
 add-requires : tie.Need-add-requires Inv-loop μ-loop
-add-requires c κs = (c .before .before .before .before .before .loop .inv .room, numbered (c .parse .result) (now (c .before .before .before .first-line .result)) (c .parse .ensures))
+add-requires c κs = (
+  c .before .before .before .before .before .loop .inv .room,
+  numbered (c .parse .result) (now (c .before .before .before .first-line .result))
+      (c .parse .ensures),
+)
 
 enum-known-fault : tie.Need-enum-known-fault Inv-loop μ-loop
 enum-known-fault c = search needs
@@ -43,7 +48,8 @@ returns-2 c =
     let l = f .before .before in
     let I = instanceFrom (l .loop .shape) (jobOf (l .loop .job)) in
     reading-refused (l .loop .inv) (f .first-line .ensures) (p .before .before .if1 .left) _
-    (told (withLine I) (p .parse .result) (now (f .first-line .result)) (a .add .result) _ (a .add .last .1 .0) (p .parse .ensures) (a .add .ensures .0) (c .before .fault .given .1))
+    (told (withLine I) (p .parse .result) (now (f .first-line .result)) (a .add .result) _ (a .add .last .1 .0) (p .parse .ensures) (a .add .ensures .0)
+    (c .before .fault .given .1))
 
 enum-known-next : tie.Need-enum-known-next Inv-loop μ-loop
 enum-known-next c = search needs
@@ -67,12 +73,19 @@ part-rest-end : tie.Need-part-rest-end Inv-loop μ-loop
 part-rest-end c = search needs
 
 add-k : tie.Need-add-k Inv-loop μ-loop
-add-k c = omega (arith, c .before .before .before .before .before .before .before .before .before .before .loop .inv .places, c .before .before .before .before .before .before .before .before .before .before .before .before .pre .1)
+add-k c =
+    let l = c .before .before .before .before .before .before .before .before .before .before in
+    omega (arith, l .loop .inv .places, l .before .before .pre .1)
 
 loop-less : tie.Need-loop-less Inv-loop μ-loop
 loop-less c =
     let f = c .before .before .before .before .before .before .before .before in
-    simp (length-take, length-drop) (omega (arith, line-short (f .before .before .loop .inv) (f .first-line .ensures) (c .before .before .before .before .before .before .before .if1 .left)))
+    simp (length-take, length-drop)
+    (omega (
+      arith,
+      line-short (f .before .before .loop .inv) (f .first-line .ensures)
+          (c .before .before .before .before .before .before .before .if1 .left),
+    ))
 
 loop-again : tie.Need-loop-again Inv-loop μ-loop
 loop-again c =

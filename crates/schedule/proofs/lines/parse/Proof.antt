@@ -43,7 +43,8 @@ returns-2 c =
     let x = c .before .before in
     let y = x .before .before in
     let z = y .before .before in
-    λ J. c .move-of .ensures ∙ sym (line-move _ _ (sym (z .before .before .scan .ensures) ∙ z .enum-told .given .1) _ _ _ _ (sym (y .scan2 .ensures) ∙ x .first2 .given .1))
+    λ J. c .move-of .ensures ∙ sym
+    (line-move _ _ (sym (z .before .before .scan .ensures) ∙ z .enum-told .given .1) _ _ _ _ (sym (y .scan2 .ensures) ∙ x .first2 .given .1))
 
 enum-told-2 : tie.Need-enum-told-2
 enum-told-2 c = search needs
@@ -67,7 +68,9 @@ returns-3 c =
     let z = y .before .before in
     let t = z .before .before in
     let u = t .before .before in
-    λ J. c .claim-of .ensures ∙ sym (line-claim _ _ (sym (u .before .before .scan .ensures) ∙ u .enum-told .given .1) (sym (t .scan2 .ensures) ∙ z .enum-told2 .given .1) _ _ _ _ (sym (y .scan3 .ensures) ∙ x .first3 .given .1))
+    λ J. c .claim-of .ensures ∙ sym
+    (line-claim _ _ (sym (u .before .before .scan .ensures) ∙ u .enum-told .given .1) (sym (t .scan2 .ensures) ∙ z .enum-told2 .given .1) _ _ _ _
+    (sym (y .scan3 .ensures) ∙ x .first3 .given .1))
 
 enum-told-3 : tie.Need-enum-told-3
 enum-told-3 c = search needs
@@ -78,7 +81,8 @@ returns-4 c =
     let z = y .before .before in
     let t = z .before .before in
     let u = t .before .before in
-    λ J. sym (line-none _ _ (sym (u .before .before .scan .ensures) ∙ u .enum-told .given .1) (sym (t .scan2 .ensures) ∙ z .enum-told2 .given .1) (sym (y .scan3 .ensures) ∙ c .enum-told3 .given .1))
+    λ J. sym (line-none _ _ (sym (u .before .before .scan .ensures) ∙ u .enum-told .given .1) (sym (t .scan2 .ensures) ∙ z .enum-told2 .given .1)
+    (sym (y .scan3 .ensures) ∙ c .enum-told3 .given .1))
 
 pub parse-spec : {M : Type 1} → statement M
 parse-spec =

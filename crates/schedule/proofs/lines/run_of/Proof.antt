@@ -24,14 +24,16 @@ returns c =
     let d = c .before in
     let e = d .before .before .before in
     let s = e .before .before in
-    λ J. rw (processor-count (s .args .shape) J) (in-ranges _ (d .all-three .ensures) (e .between .ensures) (d .before .before .between2 .ensures) (d .before .between3 .ensures) (c .if1 .taken))
+    λ J. rw (processor-count (s .args .shape) J)
+    (in-ranges _ (d .all-three .ensures) (e .between .ensures) (d .before .before .between2 .ensures) (d .before .between3 .ensures) (c .if1 .taken))
 
 returns-2 : tie.Need-returns-2
 returns-2 c =
     let d = c .before in
     let e = d .before .before .before in
     let s = e .before .before in
-    λ J. rw (processor-count (s .args .shape) J) (out-of-ranges _ (d .all-three .ensures) (e .between .ensures) (d .before .before .between2 .ensures) (d .before .between3 .ensures) (c .if1 .left))
+    λ J. rw (processor-count (s .args .shape) J)
+    (out-of-ranges _ (d .all-three .ensures) (e .between .ensures) (d .before .before .between2 .ensures) (d .before .between3 .ensures) (c .if1 .left))
 
 pub run-of-spec : {M : Type 1} → statement M
 run-of-spec =

@@ -36,8 +36,11 @@ add-t14 c = search needs
 returns-2 : tie.Need-returns-2
 returns-2 c =
     let s = c .before .before .before .before .before in
-    let f = c .before .before in
-    (λ J. cut-line _ _ _ (f .first-line .ensures) (instanceFrom (s .args .shape) J) (c .before .if1 .left) _ (c .parse .ensures J), cut-within (now (s .args .paper)) _ _ (f .first-line .ensures) (c .before .if1 .left))
+    let f = c .before .before in (
+      λ J. cut-line _ _ _ (f .first-line .ensures) (instanceFrom (s .args .shape) J) (c .before .if1 .left) _ (c .parse .ensures J),
+      cut-within
+          (now (s .args .paper)) _ _ (f .first-line .ensures) (c .before .if1 .left),
+    )
 
 pub line-at-spec : {M : Type 1} → statement M
 line-at-spec =

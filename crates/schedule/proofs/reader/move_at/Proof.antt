@@ -40,7 +40,11 @@ returns-4 : tie.Need-returns-4
 returns-4 c =
     let x = c .before .before .before in
     let o = x .before .before in
-    λ J. (move-start (o .line-at .result .said) (o .line-at .ensures .0 J) _ _ _ _ _ (x .said .given .1) (c .before .if1 .left) (c .if2 .left), o .line-at .ensures .1)
+    λ J. (
+      move-start (o .line-at .result .said) (o .line-at .ensures .0 J) _ _ _ _ _ (x .said .given .1) (c .before .if1 .left)
+          (c .if2 .left),
+      o .line-at .ensures .1,
+    )
 
 pub move-at-spec : {M : Type 1} → statement M
 move-at-spec =

@@ -51,7 +51,8 @@ returns-3 c =
     let s = a .before .before .before .before in
     let I = instanceFrom (s .args .shape) (jobOf (now (s .args .job))) in
     let m = c .before .before .before in
-    moves-refused I _ (a .before .before .if1 .left) _ _ _ (m .read-moves .result) (a .read-runs .ensures .0 _) _ _ (m .before .before .before .runs-end .given .1) (m .read-moves .ensures .0) _ _ (c .before .fault2 .given .1)
+    moves-refused I _ (a .before .before .if1 .left) _ _ _ (m .read-moves .result) (a .read-runs .ensures .0 _) _ _
+    (m .before .before .before .runs-end .given .1) (m .read-moves .ensures .0) _ _ (c .before .fault2 .given .1)
 
 returns-4 : tie.Need-returns-4
 returns-4 c =
@@ -59,7 +60,8 @@ returns-4 c =
     let s = a .before .before .before .before in
     let I = instanceFrom (s .args .shape) (jobOf (now (s .args .job))) in
     let m = c .before .before .before .before in
-    claim-answers I _ (a .before .before .if1 .left) _ _ _ (m .read-moves .result) (a .read-runs .ensures .0 _) _ _ (m .before .before .before .runs-end .given .1) (m .read-moves .ensures .0) _ _ (c .before .before .at .given .1) _ (c .read-claim .ensures _ _)
+    claim-answers I _ (a .before .before .if1 .left) _ _ _ (m .read-moves .result) (a .read-runs .ensures .0 _) _ _
+    (m .before .before .before .runs-end .given .1) (m .read-moves .ensures .0) _ _ (c .before .before .at .given .1) _ (c .read-claim .ensures _ _)
 
 pub read-spec : {M : Type 1} → statement M
 read-spec =

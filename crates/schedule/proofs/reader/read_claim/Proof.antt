@@ -32,7 +32,8 @@ returns-2 c =
     let n = c .before in
     let x = n .before .before .before in
     let o = x .before .before in
-    λ J P. claim-more (o .line-at .result .said) (o .line-at .ensures .0 J) P _ _ (x .said .given .1) (n .line-at2 .result .said) (n .before .if1 .taken) (n .line-at2 .ensures .0 J) _ (c .fault-of2 .ensures)
+    λ J P. claim-more (o .line-at .result .said) (o .line-at .ensures .0 J) P _ _ (x .said .given .1) (n .line-at2 .result .said) (n .before .if1 .taken)
+    (n .line-at2 .ensures .0 J) _ (c .fault-of2 .ensures)
 
 returns-3 : tie.Need-returns-3
 returns-3 c =

@@ -32,8 +32,11 @@ fault-of-requires c κs = search needs
 returns : tie.Need-returns Inv-loop μ-loop
 returns c =
     let o = c .before .before in
-    let l = o .before .before .before in
-    (λ J. runs-other (l .loop .inv) (omega arith) J (o .line-at .result .said) (o .line-at .ensures .0 J) (c .before .match .keys2) _ (c .fault-of .ensures), tt)
+    let l = o .before .before .before in (
+      λ J. runs-other (l .loop .inv) (omega arith) J (o .line-at .result .said) (o .line-at .ensures .0 J) (c .before .match .keys2) _
+          (c .fault-of .ensures),
+      tt,
+    )
 
 returns-2 : tie.Need-returns-2 Inv-loop μ-loop
 returns-2 c =
@@ -57,7 +60,8 @@ loop-again c =
     let o = x .before .before in
     let l = o .before .before .before in
     let w = c .set-run .ensures in
-    runs-next (l .loop .inv) (omega arith) (l .before .before .pre .1) (w .1 .0) (o .line-at .result .said) _ _ _ _ (o .line-at .ensures .1) (o .line-at .ensures .0) (x .said .given .1) (c .before .before .if2 .left) _ (w .0)
+    runs-next (l .loop .inv) (omega arith) (l .before .before .pre .1) (w .1 .0) (o .line-at .result .said) _ _ _ _ (o .line-at .ensures .1)
+    (o .line-at .ensures .0) (x .said .given .1) (c .before .before .if2 .left) _ (w .0)
 
 add-t18 : tie.Need-add-t18 Inv-loop μ-loop
 add-t18 c =

@@ -33,7 +33,9 @@ run-size-requires : tie.Need-run-size-requires Inv-loop μ-loop
 run-size-requires c κs = search needs
 
 add-n : tie.Need-add-n Inv-loop μ-loop
-add-n c = omega (arith, c .before .before .before .before .before .loop .inv .bound, c .before .before .before .before .before .loop .inv .passed, c .before .before .before .before .before .before .pre)
+add-n c =
+    let l = c .before .before .before .before .before in
+    omega (arith, l .loop .inv .bound, l .loop .inv .passed, l .before .pre)
 
 add-i : tie.Need-add-i Inv-loop μ-loop
 add-i c = search needs
@@ -46,7 +48,9 @@ loop-again c =
     let l = c .before .before .before .before .before in
     let s = l .before in
     let h = c .before .before .before .if1 .taken in
-    counted-next _ _ (runs-grow _) (l .loop .inv) h _ (run-piece (s .args .shape) (entriesOf (now (s .args .schedule))) h _ _ (c .before .before .processor .ensures) (c .before .start .ensures)) _ (c .run-size .ensures .0) (c .run-size .ensures .1)
+    counted-next _ _ (runs-grow _) (l .loop .inv) h _
+    (run-piece (s .args .shape) (entriesOf (now (s .args .schedule))) h _ _ (c .before .before .processor .ensures) (c .before .start .ensures)) _
+    (c .run-size .ensures .0) (c .run-size .ensures .1)
 
 returns : tie.Need-returns Inv-loop μ-loop
 returns c =

@@ -25,7 +25,8 @@ add-result-2 c = search needs
 returns : tie.Need-returns
 returns c =
     let s = c .before .before .before in
-    text-length (s .args .shape) (jobOf (now (s .args .job))) (entriesOf (now (s .args .schedule))) (asClaim (s .args .claim)) _ _ _ (c .before .before .runs-size .ensures .0) (c .before .moves-size .ensures .0) (c .claim-size .ensures .0)
+    text-length (s .args .shape) (jobOf (now (s .args .job))) (entriesOf (now (s .args .schedule))) (asClaim (s .args .claim)) _ _ _
+    (c .before .before .runs-size .ensures .0) (c .before .moves-size .ensures .0) (c .claim-size .ensures .0)
 
 pub schedule-size-spec : {M : Type 1} → statement M
 schedule-size-spec =

@@ -43,7 +43,8 @@ write-run-requires c κs =
     let l = c .before .before .before .before .before in
     let s = l .before .before in
     let h = c .before .before .before .if1 .taken in
-    laid-room _ _ (runs-grow _) (l .loop .inv) h _ (run-piece (s .args .shape) (entriesOf (now (s .args .schedule))) h _ _ (c .before .before .processor .ensures) (c .before .start .ensures))
+    laid-room _ _ (runs-grow _) (l .loop .inv) h _
+    (run-piece (s .args .shape) (entriesOf (now (s .args .schedule))) h _ _ (c .before .before .processor .ensures) (c .before .start .ensures))
 
 add-i : tie.Need-add-i Inv-loop μ-loop
 add-i c = search needs
@@ -58,7 +59,8 @@ loop-again c =
     let l = t .before .before .before .before in
     let s = l .before .before in
     let h = t .before .before .if1 .taken in
-    laid-next _ _ (runs-grow _) (l .loop .inv) h _ (run-piece (s .args .shape) (entriesOf (now (s .args .schedule))) h _ _ (t .before .processor .ensures) (t .start .ensures)) _ _ (w .write-run .ensures)
+    laid-next _ _ (runs-grow _) (l .loop .inv) h _
+    (run-piece (s .args .shape) (entriesOf (now (s .args .schedule))) h _ _ (t .before .processor .ensures) (t .start .ensures)) _ _ (w .write-run .ensures)
 
 add-at : tie.Need-add-at Inv-loop μ-loop
 add-at c =
