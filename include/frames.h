@@ -22,7 +22,7 @@ extern "C" {
 #define FRAMES_MAX_TEXT 32768
 
 /* Stack that is enough for any call, in bytes. On the largest sheet (64 tasks, 256 files) a planner used 15 KB and the marker, with every file
- * moved, 20 KB: tests/calls.c runs each call on a painted stack, and fails if one uses more than this. */
+ * moved, 18 KB: tests/calls.c runs each call on a painted stack, and fails if one uses more than this. */
 #define FRAMES_STACK 32768
 
 /* The numbers that a call answers. The place is what stands in brackets; lines and tasks are counted from 1. The marker answers 0, 1 to 4 and 11

@@ -1,3 +1,4 @@
+-- What the contracts of this crate cite.
 pub mod Escaped
 pub mod LongEnough
 pub mod Within

@@ -15,25 +15,12 @@ use Rattle.rules.specs.InstanceText.{withTask, withFile}
 use Rattle.rules.proofs.CountLaws.{list-cong}
 use Rattle.model.specs.declared.layout.Shape.{Shape}
 use Rattle.model.specs.Layout.{jobOf, entriesOf, taskFrom, fileFrom, runFrom, instanceFrom, jobLength, scheduleLength, withTaskAt, withFileAt, withRunAt}
-use Rattle.model.specs.Layout.{withMoveAt}
+use Rattle.model.specs.Layout.{withMoveAt, makerPlace, readerPlace, sizePlace, moveTimePlace, moveStartPlace}
 
 -- a list by index, with one element more
 list-next : {A : Type 0} (n : ℕ) (f g : ℕ → A) (a : A) → ((k : ℕ) → k < n → f k ≡ g k) → f n ≡ a → listBelow (suc n) f ≡ listBelow n g ++ (a ∷ [])
 unfolding listBelow
 list-next {A} n f g a same last = ap₂ (λ (l : List A) (x : A). l ++ (x ∷ [])) (list-cong n f g same) last
-
--- ---- where the four numbers of a file stand
-abbrev makerOf : ℕ → ℕ
-makerOf k = 2 * maxTasks + k
-
-abbrev readerOf : ℕ → ℕ
-readerOf k = 2 * maxTasks + maxFiles + k
-
-abbrev sizeOf : ℕ → ℕ
-sizeOf k = 2 * maxTasks + 2 * maxFiles + k
-
-abbrev moveTimeOf : ℕ → ℕ
-moveTimeOf k = 2 * maxTasks + 3 * maxFiles + k
 
 -- ---- two numbers written
 module _ (xs : List ℕ) (p q a b : ℕ) where
@@ -75,10 +62,10 @@ module _ (xs : List ℕ) {i : ℕ} (h : i < maxTasks) (a b : ℕ) where
 
   task-files : (k : ℕ) → fileFrom (jobOf (withTaskAt xs i a b)) k ≡ fileFrom (jobOf xs) k
   task-files k = rw (
-    pair-behind (makerOf k) (omega arith),
-    pair-behind (readerOf k) (omega arith),
-    pair-behind (sizeOf k) (omega arith),
-    pair-behind (moveTimeOf k) (omega arith),
+    pair-behind (makerPlace k) (omega arith),
+    pair-behind (readerPlace k) (omega arith),
+    pair-behind (sizePlace k) (omega arith),
+    pair-behind (moveTimePlace k) (omega arith),
   )
 
   pub run-here : length xs ≡ scheduleLength → runFrom (entriesOf (withRunAt xs i a b)) i ≡ record { processor = a; start = b }
@@ -88,46 +75,46 @@ module _ (xs : List ℕ) {i : ℕ} (h : i < maxTasks) (a b : ℕ) where
   run-other j l d = let e = pair-other j l d in rw (e .0, e .1)
 
   pub run-moves : (k : ℕ) → entriesOf (withRunAt xs i a b) .moveStart k ≡ entriesOf xs .moveStart k
-  run-moves k = pair-behind (2 * maxTasks + k) (omega arith)
+  run-moves k = pair-behind (moveStartPlace k) (omega arith)
 
 -- ---- a move start
 module _ (xs : List ℕ) {k : ℕ} (h : k < maxFiles) (t : ℕ) where
   pub move-here : length xs ≡ scheduleLength → entriesOf (withMoveAt xs k t) .moveStart k ≡ t
-  move-here long = getD-set-same xs (2 * maxTasks + k) t 0 (omega arith)
+  move-here long = getD-set-same xs (moveStartPlace k) t 0 (omega arith)
 
   pub move-other : (j : ℕ) → j ≢ k → entriesOf (withMoveAt xs k t) .moveStart j ≡ entriesOf xs .moveStart j
-  move-other j d = getD-set-other xs (2 * maxTasks + k) (2 * maxTasks + j) t 0 (λ e. d (omega arith))
+  move-other j d = getD-set-other xs (moveStartPlace k) (moveStartPlace j) t 0 (λ e. d (omega arith))
 
   pub move-runs : (i : ℕ) → i < maxTasks → runFrom (entriesOf (withMoveAt xs k t)) i ≡ runFrom (entriesOf xs) i
   move-runs i l = rw (
-    getD-set-other xs (2 * maxTasks + k) i t 0 (λ e. omega arith),
-    getD-set-other xs (2 * maxTasks + k) (maxTasks + i) t 0 (λ e. omega arith),
+    getD-set-other xs (moveStartPlace k) i t 0 (λ e. omega arith),
+    getD-set-other xs (moveStartPlace k) (maxTasks + i) t 0 (λ e. omega arith),
   )
 
 -- ---- the four numbers of a file
 module _ (xs : List ℕ) {k : ℕ} (h : k < maxFiles) (m r s t : ℕ) where
   abbrev ys : List ℕ
-  ys = both xs (makerOf k) (readerOf k) m r
+  ys = both xs (makerPlace k) (readerPlace k) m r
 
-  file-kept : (j : ℕ) → j ≢ makerOf k → j ≢ readerOf k → j ≢ sizeOf k → j ≢ moveTimeOf k
+  file-kept : (j : ℕ) → j ≢ makerPlace k → j ≢ readerPlace k → j ≢ sizePlace k → j ≢ moveTimePlace k
       → getD (withFileAt xs k m r s t) j 0 ≡ getD xs j 0
-  file-kept j a b c d = both-other ys (sizeOf k) (moveTimeOf k) s t c d ∙ both-other xs (makerOf k) (readerOf k) m r a b
+  file-kept j a b c d = both-other ys (sizePlace k) (moveTimePlace k) s t c d ∙ both-other xs (makerPlace k) (readerPlace k) m r a b
 
   file-here : length xs ≡ jobLength → fileFrom (jobOf (withFileAt xs k m r s t)) k ≡ record { maker = m; reader = r; size = s; moveTime = t }
   file-here long =
-      let l : length ys ≡ jobLength = both-length xs (makerOf k) (readerOf k) m r ∙ long in rw (
-        both-other ys (sizeOf k) (moveTimeOf k) s t (omega arith) (omega arith) ∙ both-first xs (makerOf k) (readerOf k) m r (omega arith) (omega arith),
-        both-other ys (sizeOf k) (moveTimeOf k) s t (omega arith) (omega arith) ∙ both-second xs (makerOf k) (readerOf k) m r (omega arith),
-        both-first ys (sizeOf k) (moveTimeOf k) s t (omega arith) (omega arith),
-        both-second ys (sizeOf k) (moveTimeOf k) s t (omega arith),
+      let l : length ys ≡ jobLength = both-length xs (makerPlace k) (readerPlace k) m r ∙ long in rw (
+        both-other ys (sizePlace k) (moveTimePlace k) s t (omega arith) (omega arith) ∙ both-first xs (makerPlace k) (readerPlace k) m r (omega arith) (omega arith),
+        both-other ys (sizePlace k) (moveTimePlace k) s t (omega arith) (omega arith) ∙ both-second xs (makerPlace k) (readerPlace k) m r (omega arith),
+        both-first ys (sizePlace k) (moveTimePlace k) s t (omega arith) (omega arith),
+        both-second ys (sizePlace k) (moveTimePlace k) s t (omega arith),
       )
 
   file-other : (j : ℕ) → j < maxFiles → j ≢ k → fileFrom (jobOf (withFileAt xs k m r s t)) j ≡ fileFrom (jobOf xs) j
   file-other j l d = rw (
-    file-kept (makerOf j) (λ e. d (omega arith)) (omega arith) (omega arith) (omega arith),
-    file-kept (readerOf j) (omega arith) (λ e. d (omega arith)) (omega arith) (omega arith),
-    file-kept (sizeOf j) (omega arith) (omega arith) (λ e. d (omega arith)) (omega arith),
-    file-kept (moveTimeOf j) (omega arith) (omega arith) (omega arith) (λ e. d (omega arith)),
+    file-kept (makerPlace j) (λ e. d (omega arith)) (omega arith) (omega arith) (omega arith),
+    file-kept (readerPlace j) (omega arith) (λ e. d (omega arith)) (omega arith) (omega arith),
+    file-kept (sizePlace j) (omega arith) (omega arith) (λ e. d (omega arith)) (omega arith),
+    file-kept (moveTimePlace j) (omega arith) (omega arith) (omega arith) (λ e. d (omega arith)),
   )
 
   file-tasks : (i : ℕ) → i < maxTasks → taskFrom (jobOf (withFileAt xs k m r s t)) i ≡ taskFrom (jobOf xs) i

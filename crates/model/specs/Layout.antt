@@ -22,14 +22,34 @@ pub record Job : Type 0 where
   pub size : ℕ → ℕ
   pub moveTime : ℕ → ℕ
 
+-- where the numbers of task i and of file k stand; the run time on blue of task i is at i
+abbrev pub onRedPlace : ℕ → ℕ
+onRedPlace i = maxTasks + i
+
+abbrev pub makerPlace : ℕ → ℕ
+makerPlace k = 2 * maxTasks + k
+
+abbrev pub readerPlace : ℕ → ℕ
+readerPlace k = 2 * maxTasks + maxFiles + k
+
+abbrev pub sizePlace : ℕ → ℕ
+sizePlace k = 2 * maxTasks + 2 * maxFiles + k
+
+abbrev pub moveTimePlace : ℕ → ℕ
+moveTimePlace k = 2 * maxTasks + 3 * maxFiles + k
+
+-- the length of a job array
+abbrev pub jobLength : ℕ
+jobLength = 2 * maxTasks + 4 * maxFiles
+
 abbrev pub jobOf : List ℕ → Job
 jobOf xs = record {
   onBlue = λ i. getD xs i 0;
-  onRed = λ i. getD xs (maxTasks + i) 0;
-  maker = λ k. getD xs (2 * maxTasks + k) 0;
-  reader = λ k. getD xs (2 * maxTasks + maxFiles + k) 0;
-  size = λ k. getD xs (2 * maxTasks + 2 * maxFiles + k) 0;
-  moveTime = λ k. getD xs (2 * maxTasks + 3 * maxFiles + k) 0;
+  onRed = λ i. getD xs (onRedPlace i) 0;
+  maker = λ k. getD xs (makerPlace k) 0;
+  reader = λ k. getD xs (readerPlace k) 0;
+  size = λ k. getD xs (sizePlace k) 0;
+  moveTime = λ k. getD xs (moveTimePlace k) 0;
 }
 
 -- the processor and the start of each task, and the move start of each file
@@ -38,20 +58,23 @@ pub record Entries : Type 0 where
   pub start : ℕ → ℕ
   pub moveStart : ℕ → ℕ
 
-abbrev pub entriesOf : List ℕ → Entries
-entriesOf xs = record {
-  processor = λ i. getD xs i 0;
-  start = λ i. getD xs (maxTasks + i) 0;
-  moveStart = λ k. getD xs (2 * maxTasks + k) 0;
-}
+-- where the start of task i and the move start of file k stand; the processor of task i is at i
+abbrev pub startPlace : ℕ → ℕ
+startPlace i = maxTasks + i
 
--- the length of a job array
-abbrev pub jobLength : ℕ
-jobLength = 2 * maxTasks + 4 * maxFiles
+abbrev pub moveStartPlace : ℕ → ℕ
+moveStartPlace k = 2 * maxTasks + k
 
 -- the length of a schedule array
 abbrev pub scheduleLength : ℕ
 scheduleLength = 2 * maxTasks + maxFiles
+
+abbrev pub entriesOf : List ℕ → Entries
+entriesOf xs = record {
+  processor = λ i. getD xs i 0;
+  start = λ i. getD xs (startPlace i) 0;
+  moveStart = λ k. getD xs (moveStartPlace k) 0;
+}
 
 -- the length of an array of last finishes
 abbrev pub lastLength : ℕ
@@ -60,20 +83,17 @@ lastLength = 2 * processorCounts .most
 -- ---- the arrays with one task, file, run or move start written
 
 abbrev pub withTaskAt : List ℕ → ℕ → ℕ → ℕ → List ℕ
-withTaskAt job i onBlue onRed = set (set job i onBlue) (maxTasks + i) onRed
+withTaskAt job i onBlue onRed = set (set job i onBlue) (onRedPlace i) onRed
 
 abbrev pub withFileAt : List ℕ → ℕ → ℕ → ℕ → ℕ → ℕ → List ℕ
 withFileAt job k maker reader size time =
-    set
-    (set (set (set job (2 * maxTasks + k) maker) (2 * maxTasks + maxFiles + k) reader) (2 * maxTasks + 2 * maxFiles + k) size)
-    (2 * maxTasks + 3 * maxFiles + k)
-    time
+    set (set (set (set job (makerPlace k) maker) (readerPlace k) reader) (sizePlace k) size) (moveTimePlace k) time
 
 abbrev pub withRunAt : List ℕ → ℕ → ℕ → ℕ → List ℕ
-withRunAt schedule i processor start = set (set schedule i processor) (maxTasks + i) start
+withRunAt schedule i processor start = set (set schedule i processor) (startPlace i) start
 
 abbrev pub withMoveAt : List ℕ → ℕ → ℕ → List ℕ
-withMoveAt schedule k start = set schedule (2 * maxTasks + k) start
+withMoveAt schedule k start = set schedule (moveStartPlace k) start
 
 -- ---- the rules' instance and schedule
 

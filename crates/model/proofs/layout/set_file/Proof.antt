@@ -1,9 +1,9 @@
 -- `set_file` meets its contract: two pairs of stores.
-use Prim.Native.Nat.{ℕ, _+_, _*_}
+use Prim.Native.Nat.{ℕ}
 use mathlib.Core.Path.{ap, _∙_}
 use mathlib.Core.List.{List}
 use lib.ListN.{set}
-use Rattle.rules.specs.Limits.{maxTasks, maxFiles}
+use Rattle.model.specs.Layout.{sizePlace, moveTimePlace}
 use borrow.Author.Needs.{needs}
 use Rattle.model.proofs.layout.set_file.Statement.{statement}
 use Rattle.model.proofs.layout.set_file.Tie as tie
@@ -29,8 +29,8 @@ store-two-requires-2 c κs = search needs
 returns : tie.Need-returns
 returns c =
     let a = c .before .before .before .before .args in
-    let p = 2 * maxTasks + 2 * maxFiles + a .k in
-    let q = 2 * maxTasks + 3 * maxFiles + a .k in (
+    let p = sizePlace (a .k) in
+    let q = moveTimePlace (a .k) in (
       c .store-two2 .ensures ∙ ap (λ (l : List ℕ). set (set l p (a .size)) q (a .time)) (c .before .before .store-two .ensures),
       search needs,
     )
