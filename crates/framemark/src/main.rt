@@ -11,8 +11,12 @@ use libc::STDOUT_FILENO;
 // Prints the verdict, and the line at fault under a refusal. Nothing is printed for a line at fault that is absent or empty.
 // Returns whether all was written.
 fn print_marks<'a>(sheet: &'a [u8], paper: &'a [u8]) -> bool {
-    if !print_verdict(frames::mark(sheet, paper)) {
+    let v = frames::mark(sheet, paper);
+    if !print_verdict(v) {
         return false;
+    }
+    if v.number == 0 {
+        return true;
     }
     let line = frames::fault_line(sheet, paper);
     if line.len() == 0 {
