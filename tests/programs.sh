@@ -25,7 +25,7 @@ cp "$examples/course.sheet" sheet
 cp "$examples/course.memheft" paper
 timetable=$(cat paper)$'\n'
 mkdir folder
-sed 's/(task 2 3 5)/(task 2 0 5)/' sheet > bad.sheet
+sed 's/(task 2 3 5)/(task 2 1000001 5)/' sheet > bad.sheet
 sed 's/6)/4)/g' sheet > tight.sheet
 head -n 1 sheet > board.sheet
 for n in 32768 32769 40000 65536 100000; do
@@ -35,6 +35,13 @@ done
 sed 's/(run 3 1 6)/(run 3 1 5)/' paper > early.paper
 sed 's/(run 2 1 3)/(run 2 01 3)/' paper > zero.paper
 head -n 5 paper > short.paper
+printf '(%s)\n' 'board (blue 1 6) (red 1 6)' 'task 1 4 2' 'task 2 0 0' 'task 3 3 5' 'task 4 2 6' \
+    'file 1 2 1 1' 'file 2 3 2 1' 'file 2 4 3 2' > relay.sheet
+relayed=$(printf '(%s)\n' 'run 1 2 0' 'run 2 2 2' 'run 3 1 3' 'run 4 1 6' 'move 2 3 2' 'move 2 4 4' 'claim 8 5 6')$'\n'
+printf '%s' "$relayed" > relay.paper
+sed 's/(run 2 2 2)/(run 2 2 1)/' relay.paper > inside.paper
+sed 's/(run 4 1 6)/(run 4 2 2)/; /(move 2 4 4)/d; s/(claim 8 5 6)/(claim 8 2 6)/' relay.paper > at_start.paper
+sed 's/6)/5)/2' relay.sheet > relay_tight.sheet
 sed '2s/.*//' paper > empty_line.paper
 { head -n 1 paper; printf '(run\t2 1\\ 3)\033[31m\377\n'; tail -n +3 paper; } > control.paper
 escaped='(run\x092 1\\ 3)\x1b[31m\xff'
@@ -65,6 +72,8 @@ expect 'MemMinMin by name' 'frameplan memminmin < sheet' "$timetable" ''
 expect 'a sheet that comes in pieces' '{ head -c 50 sheet; sleep 0.2; tail -c +51 sheet; } | frameplan' "$timetable" ''
 expect 'a refused sheet' 'frameplan < bad.sheet' $'(refused 3 3)\n' ''
 expect 'a planner that is stuck' 'frameplan < tight.sheet' $'(refused 21 0)\n' ''
+expect 'a sheet with a relay' 'frameplan < relay.sheet' "$relayed" ''
+expect 'a sheet with a relay, MemMinMin' 'frameplan memminmin < relay.sheet' "$relayed" ''
 expect 'empty input' 'frameplan < /dev/null' $'(refused 2 1)\n' ''
 expect 'the longest sheet that is read' 'frameplan < 32768.sheet' $'(refused 4 7)\n' ''
 expect 'a sheet of 32769 bytes' 'frameplan < 32769.sheet' $'(refused 1 0)\n' ''
@@ -90,8 +99,12 @@ expect 'an accepted paper' 'framemark sheet paper' "$accepted" ''
 expect 'a paper that comes in pieces' 'framemark sheet <(head -c 30 paper; sleep 0.2; tail -c +31 paper)' "$accepted" ''
 expect 'closed standard input, which is not read' 'framemark sheet paper <&-' "$accepted" ''
 expect 'a line at fault' 'framemark sheet zero.paper' $'(refused 12 2)\n(run 2 01 3)\n' ''
-expect 'a line at fault of the sheet' 'framemark bad.sheet paper' $'(refused 3 3)\n(task 2 0 5)\n' ''
+expect 'a line at fault of the sheet' 'framemark bad.sheet paper' $'(refused 3 3)\n(task 2 1000001 5)\n' ''
 expect 'a fault of no line' 'framemark sheet early.paper' $'(refused 15 2)\n' ''
+expect 'a paper with a relay' 'framemark relay.sheet relay.paper' $'(accepted 8 5 6)\n' ''
+expect 'a relay inside a run' 'framemark relay.sheet inside.paper' $'(refused 15 1)\n' ''
+expect 'a relay at the start of a run' 'framemark relay.sheet at_start.paper' $'(accepted 8 2 6)\n' ''
+expect 'a relay whose files together are over a limit' 'framemark relay_tight.sheet relay.paper' $'(refused 17 2)\n' ''
 expect 'an absent line' 'framemark sheet short.paper' $'(refused 12 6)\n' ''
 expect 'an absent line of the sheet' 'framemark board.sheet paper' $'(refused 2 2)\n' ''
 expect 'an empty line' 'framemark sheet empty_line.paper' $'(refused 12 2)\n' ''

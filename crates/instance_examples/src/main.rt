@@ -19,7 +19,7 @@ fn show(sheet: &[u8]) {
     }
 }
 
-// Sheets that are accepted: the course example; one task; sizes and limits at the ends of their ranges.
+// Sheets that are accepted: the course example; one task; sizes and limits at the ends of their ranges; run times of 0.
 fn accepted() {
     show(
         b"(board (blue 1 6) (red 1 6))\n(task 1 4 2)\n(task 2 3 5)\n(task 3 2 6)\n(file 1 2 2 1)\n(file 1 3 3 2)\n",
@@ -28,6 +28,9 @@ fn accepted() {
     show(
         b"(board (blue 8 0) (red 8 0))\n(task 1 1 1)\n(task 2 1 1)\n(task 3 1 1)\n(file 1 3 0 1000000)\n(file 2 3 1000000 1)\n",
     );
+    show(b"(board (blue 1 6) (red 1 6))\n(task 1 0 2)\n");
+    show(b"(board (blue 1 6) (red 1 6))\n(task 1 4 0)\n");
+    show(b"(board (blue 1 6) (red 1 6))\n(task 1 0 0)\n");
 }
 
 // Number 1: too long, whatever the lines are. A sheet of the greatest length is read: its first line is empty.
@@ -50,6 +53,7 @@ fn malformed() {
     show(b"(board (blue 1 6) (red 1 6))\n(run 1 1 0)\n");
     show(b"(board (blue 1 6) (red 1 6))\n(task 1  4 2)\n");
     show(b"(board (blue 1 6) (red 1 6))\n(task 1 4 2) \n");
+    show(b"(board (blue 1 6) (red 1 6))\n(task 1 00 2)\n");
 }
 
 // Number 3: a number out of its range, also in a line of the wrong kind.
@@ -57,11 +61,12 @@ fn out_of_range() {
     show(b"(board (blue 9 6) (red 1 6))\n(task 1 4 2)\n");
     show(b"(board (blue 1 6) (red 0 6))\n(task 1 4 2)\n");
     show(b"(board (blue 1 6) (red 1 6))\n(task 0 4 2)\n");
-    show(b"(board (blue 1 6) (red 1 6))\n(task 1 0 2)\n");
+    show(b"(board (blue 1 6) (red 1 6))\n(task 1 1000001 2)\n");
     show(b"(board (blue 1 6) (red 1 6))\n(task 1 4 2)\n(file 1 65 1 1)\n");
     show(b"(board (blue 1 6) (red 1 6))\n(task 1 4 2)\n(task 2 3 5)\n(file 1 2 1000001 1)\n");
     show(b"(file 0 1 1 1)\n");
     show(b"(board (blue 1 6) (red 1 6))\n(task 1 4 2)\n(board (blue 0 6) (red 1 6))\n");
+    show(b"(board (blue 1 6) (red 1 6))\n(task 1 0 1000001)\n");
 }
 
 // Number 4: a readable line that is not allowed there; of several bad lines the first.

@@ -1,4 +1,4 @@
-// When a memory holds a file, and how much it holds: document 01's hold rule, for partial schedules too.
+// When a memory holds a file, and how much it holds: document 01's hold rule with Order 1, for partial schedules too.
 ghost use mathlib.Core.Path.{_≡_};
 ghost use Prim.Native.Nat.{_<_, _≤_, max};
 ghost use Rattle.rules.specs.Model.{runAt, finishAt, releaseOf};
@@ -69,8 +69,9 @@ pub fn finish<'a>(
     layout::start(schedule, i) + time
 }
 
-// Until when task i's run keeps the files that it reads.
-fn release<'a>(
+// Until when task i's run keeps the files that it reads: its finish, but the tick after its start if it takes no time. The one
+// place of the code that says so.
+pub fn release<'a>(
     shape: Shape,
     job: &'a [u64; layout::JOB],
     schedule: &'a [u64; layout::SCHEDULE],
@@ -82,7 +83,10 @@ fn release<'a>(
         releaseOf (instanceOf shape (now (job .entry))) i (runAt (scheduleOf shape (now (schedule .entry))) i) ⌝ }
     ensures { λ r. ⌜ r ≤ lastTick ⌝ }
 {
-    finish(shape, job, schedule, i)
+    greater(
+        finish(shape, job, schedule, i),
+        layout::start(schedule, i) + 1,
+    )
 }
 
 // What the two runs of file k imply.

@@ -1,4 +1,4 @@
-// Both planners on the sheets of data/, and a buffer one byte too short.
+// Both planners on the sheets of data/, those with relays last, and a buffer one byte too short.
 use console::print_answer;
 use console::print_number;
 use frames::Answer;
@@ -53,6 +53,20 @@ fn show_short() {
     io::write_all(STDOUT_FILENO, b"\n");
 }
 
+// Relays, by Order 1.
+fn relays() {
+    show(b"relay_chain.sheet");
+    show(b"relay_one_colour.sheet");
+    show(b"relay_last.sheet");
+    show(b"relay_last_less.sheet");
+    show(b"relay_last_moved.sheet");
+    show(b"relay_last_moved_less.sheet");
+    show(b"relay_release.sheet");
+    show(b"relay_all.sheet");
+    show(b"relay_all_less.sheet");
+    show(b"relay_mixed.sheet");
+}
+
 fn main() {
     show(b"course.sheet");
     show(b"tight.sheet");
@@ -69,4 +83,5 @@ fn main() {
     show(b"refused_line.sheet");
     show(b"largest.sheet");
     show_short();
+    relays();
 }

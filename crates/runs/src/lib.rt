@@ -3,6 +3,7 @@
 // it the first runs of an array. All else is covered.
 ghost use mathlib.Core.Path.{_≡_};
 ghost use Prim.Native.Nat.{_<_, _≤_};
+ghost use lib.Dec.{ltb};
 ghost use lib.ListN.{length};
 ghost use Rattle.rules.specs.Limits.{maxTasks};
 ghost use Rattle.runs.specs.First.{FirstOverlap};
@@ -23,15 +24,22 @@ struct Scan {
     first: usize,
 }
 
-// Whether two runs are on one processor and share an instant.
+// Whether a starts before b's finish.
+fn starts_before_finish(a: Run, b: Run) -> bool
+    ensures { λ t. ⌜ t ≡ ltb (a .start) (b .finish) ⌝ }
+{
+    a.start < b.finish
+}
+
+// Whether two runs are on one processor and share an instant: each starts before the other's finish.
 fn overlapping_runs(a: Run, b: Run) -> bool
     ensures { λ t. ⌜ t ≡ overlapping a b ⌝ }
 {
     if a.processor != b.processor {
         return false;
     }
-    if a.start < b.finish {
-        b.start < a.finish
+    if starts_before_finish(a, b) {
+        starts_before_finish(b, a)
     } else {
         false
     }

@@ -1,6 +1,6 @@
 //! Board sheets and timetables by chance, from a fixed seed: sound ones, and ones with a fault.
 
-use crate::reference::{finish, write_table, Sheet, Table, MAX_TEXT};
+use crate::reference::{finish, peaks, read_sheet, span, write_table, Sheet, Table, MAX_TEXT};
 
 /// A generator of numbers (SplitMix64).
 pub struct Random(pub u64);
@@ -89,6 +89,69 @@ pub fn large_sheet(r: &mut Random, tasks: usize) -> String {
     text
 }
 
+/// The text of a board sheet.
+pub fn write_sheet(sheet: &Sheet) -> String {
+    let ([blues, reds], [blue, red]) = (sheet.processors, sheet.limits);
+    let mut text = format!("(board (blue {blues} {blue}) (red {reds} {red}))\n");
+    for (i, [b, r]) in sheet.tasks.iter().enumerate() {
+        text += &format!("(task {} {b} {r})\n", i + 1);
+    }
+    for f in &sheet.files {
+        let (i, j) = (f.maker + 1, f.reader + 1);
+        text += &format!("(file {i} {j} {} {})\n", f.size, f.time);
+    }
+    text
+}
+
+/// The sum of all file sizes.
+pub fn sizes(sheet: &Sheet) -> i64 {
+    sheet.files.iter().map(|f| f.size).sum()
+}
+
+/// A sound sheet with relays in it: one, many, a chain or all tasks, on blue, on red or on both; often with tight limits.
+pub fn with_relays(r: &mut Random, text: &str) -> String {
+    let mut sheet = read_sheet(text.as_bytes()).expect("a sound sheet");
+    let colours = r.below(4);
+    for i in relay_tasks(r, &sheet) {
+        match colours {
+            0 | 1 => sheet.tasks[i][colours] = 0,
+            2 => sheet.tasks[i] = [0, 0],
+            _ => sheet.tasks[i][r.below(2)] = 0,
+        }
+    }
+    let colour = r.below(2);
+    let (total, way) = (sizes(&sheet), r.below(5));
+    match way {
+        0 => {}
+        1 | 2 => sheet.limits = [total; 2],
+        _ => sheet.limits = peaks(&sheet, &table(r, &sheet)),
+    }
+    if way == 2 || way == 4 {
+        sheet.limits[colour] = (sheet.limits[colour] - 1).max(0);
+    }
+    write_sheet(&sheet)
+}
+
+/// The tasks to be made relays, at least one.
+fn relay_tasks(r: &mut Random, sheet: &Sheet) -> Vec<usize> {
+    let n = sheet.tasks.len();
+    let mut tasks = vec![r.below(n)];
+    match r.below(8) {
+        0 | 1 => {}
+        2..=4 => tasks.extend((0..n).filter(|_| r.one_in(2))),
+        5 | 6 => loop {
+            let maker = *tasks.last().unwrap();
+            let made: Vec<_> = sheet.files.iter().filter(|f| f.maker == maker).collect();
+            if made.is_empty() {
+                break;
+            }
+            tasks.push(made[r.below(made.len())].reader);
+        },
+        _ => tasks = (0..n).collect(),
+    }
+    tasks
+}
+
 /// A timetable that keeps the rules but for the limits: each task somewhere, after its files have arrived, with idle gaps and early moves.
 pub fn table(r: &mut Random, sheet: &Sheet) -> Table {
     let n = sheet.tasks.len();
@@ -121,6 +184,148 @@ pub fn table(r: &mut Random, sheet: &Sheet) -> Table {
         last[p as usize] = finish(sheet, &t, i);
     }
     t
+}
+
+/// Whether a task runs as a relay.
+fn relayed(sheet: &Sheet, t: &Table, i: usize) -> bool {
+    finish(sheet, t, i) == t.runs[i].unwrap().1
+}
+
+/// Whether a file's tasks run in memories of different colour.
+fn crosses(sheet: &Sheet, t: &Table, k: usize) -> bool {
+    let colour = |i: usize| sheet.colour(t.runs[i].unwrap().0);
+    colour(sheet.files[k].maker) != colour(sheet.files[k].reader)
+}
+
+/// The first and last tick at which a relay is not early: its files have arrived, and those it makes are not yet wanted.
+fn timely(sheet: &Sheet, t: &Table, i: usize) -> (i64, i64) {
+    let (mut first, mut last) = (0, i64::MAX);
+    for (k, f) in sheet.files.iter().enumerate() {
+        let moved = crosses(sheet, t, k);
+        if f.reader == i && moved {
+            first = first.max(t.moves[k] + f.time);
+        } else if f.reader == i {
+            first = first.max(finish(sheet, t, f.maker));
+        } else if f.maker == i && moved {
+            last = last.min(t.moves[k]);
+        } else if f.maker == i {
+            last = last.min(t.runs[f.reader].unwrap().1);
+        }
+    }
+    (first, last)
+}
+
+/// A timetable with a relay put on the processor of another run of its colour: at its start, at its finish, inside it, one tick
+/// before its finish, or together with another relay; mostly where it is not early. As it was if there is no such place.
+pub fn put_relay(r: &mut Random, sheet: &Sheet, table: &Table) -> Table {
+    let n = sheet.tasks.len();
+    let way = r.below(5);
+    let (mut all, mut fitting) = (vec![], vec![]);
+    for i in (0..n).filter(|i| relayed(sheet, table, *i)) {
+        let colour = sheet.colour(table.runs[i].unwrap().0);
+        let (first, last) = timely(sheet, table, i);
+        for j in (0..n).filter(|j| *j != i && relayed(sheet, table, *j) == (way == 4)) {
+            let (p, s) = table.runs[j].unwrap();
+            let end = finish(sheet, table, j);
+            let (from, to) = [
+                (s, s),
+                (end, end),
+                (s + 1, end - 1),
+                (end - 1, end - 1),
+                (s, s),
+            ][way];
+            if sheet.colour(p) != colour || from > to {
+                continue;
+            }
+            all.push((i, p, from, to));
+            if from.max(first) <= to.min(last) {
+                fitting.push((i, p, from.max(first), to.min(last)));
+            }
+        }
+    }
+    let mut t = table.clone();
+    let places = if fitting.is_empty() || r.one_in(8) {
+        all
+    } else {
+        fitting
+    };
+    if !places.is_empty() {
+        let (i, p, from, to) = places[r.below(places.len())];
+        t.runs[i] = Some((p, r.between(from, to)));
+    }
+    t
+}
+
+/// A timetable with a relay at its span, one that reads files and makes none; half the time with the relays that feed it alone at the
+/// same tick. As it was if there is no such relay.
+pub fn put_last(r: &mut Random, sheet: &Sheet, table: &Table) -> Table {
+    let mut t = table.clone();
+    let reads = |i: usize| sheet.files.iter().any(|f| f.reader == i);
+    let makes = |i: usize| sheet.files.iter().any(|f| f.maker == i);
+    let relays: Vec<usize> = (0..sheet.tasks.len())
+        .filter(|i| relayed(sheet, table, *i) && reads(*i) && !makes(*i))
+        .collect();
+    if relays.is_empty() {
+        return t;
+    }
+    let at = span(sheet, table);
+    let mut moved = vec![relays[r.below(relays.len())]];
+    if r.one_in(2) {
+        for i in (0..moved[0]).rev() {
+            let mut made = (0..sheet.files.len()).filter(|k| sheet.files[*k].maker == i);
+            let alone =
+                made.all(|k| moved.contains(&sheet.files[k].reader) && !crosses(sheet, table, k));
+            if relayed(sheet, table, i) && makes(i) && alone {
+                moved.push(i);
+            }
+        }
+    }
+    for i in moved {
+        t.runs[i] = Some((t.runs[i].unwrap().0, at));
+    }
+    t
+}
+
+/// A sheet with limits at what a timetable needs, or one less in one memory: its peaks, or what the relays at its span read.
+pub fn limited(r: &mut Random, sheet: &Sheet, t: &Table) -> Sheet {
+    let mut s = sheet.clone();
+    let c = r.below(2);
+    let at = span(sheet, t);
+    let last = sheet.files.iter().filter(|f| {
+        let (p, start) = t.runs[f.reader].unwrap();
+        sheet.colour(p) == c && start == at
+    });
+    let needed = peaks(sheet, t);
+    match r.below(6) {
+        0 => {}
+        1 | 2 => s.limits = needed,
+        3 | 4 => {
+            s.limits = needed;
+            s.limits[c] = (needed[c] - 1).max(0);
+        }
+        _ => {
+            s.limits = needed;
+            s.limits[c] = (last.map(|f| f.size).sum::<i64>() - r.between(0, 1)).max(0);
+        }
+    }
+    s
+}
+
+/// A timetable's text with one number of its claim one more or one less.
+pub fn untrue(r: &mut Random, text: &str) -> String {
+    let at = text.rfind('(').expect("a claim");
+    let mut numbers: Vec<i64> = text[at..]
+        .split(|c: char| !c.is_ascii_digit())
+        .filter_map(|w| w.parse().ok())
+        .collect();
+    let k = r.below(3);
+    numbers[k] += if numbers[k] == 0 || r.one_in(2) {
+        1
+    } else {
+        -1
+    };
+    let [span, blue, red] = [numbers[0], numbers[1], numbers[2]];
+    format!("{}(claim {span} {blue} {red})\n", &text[..at])
 }
 
 /// A timetable with one start or move start changed.

@@ -1,17 +1,21 @@
-//! Compares the proved library with an implementation of document 01 of its own, on sound and damaged texts from a fixed seed.
-//! Prints how often each answer was reached; ends with an error at the first difference, or where an answer was never reached.
+//! Compares the proved library with an implementation of document 01 with Order 1 of its own, on sound and damaged texts from a
+//! fixed seed. Prints how often each answer was reached, and what was answered to timetables with relays; ends with an error at the
+//! first difference, or where an answer was never reached.
 
 use compare::generate::{self, Random};
-use compare::reference;
+use compare::reference::{self, Sheet};
+use compare::relays::{has_relays, Counts};
 use frames::{Planner, Verdict};
 use std::collections::{BTreeMap, BTreeSet};
 
 /// How often each number was answered, and at which places.
 type Seen = BTreeMap<u64, (u64, BTreeSet<u64>)>;
 
+#[derive(Default)]
 struct Tally {
     marks: Seen,
     plans: Seen,
+    relays: Counts,
     cases: u64,
 }
 
@@ -41,6 +45,9 @@ impl Tally {
         let seen = self.marks.entry(got[0]).or_default();
         seen.0 += 1;
         seen.1.insert(got[1]);
+        if matches!(got[0], 0 | 15..=18) {
+            self.relays.marked(sheet, paper, got[0], got[1]);
+        }
     }
 
     /// A planner with a buffer of a length, filled with a pattern; what it wrote, if it succeeded.
@@ -95,6 +102,7 @@ impl Tally {
                     paper = Some(text);
                 }
             }
+            self.relays.planned(sheet, &want);
         }
         paper
     }
@@ -135,63 +143,118 @@ fn edges(t: &mut Tally) {
     t.mark(course, paper);
 }
 
+/// A sound sheet; two in five have relays.
+fn drawn(r: &mut Random, plain: String) -> Vec<u8> {
+    if r.below(5) < 2 {
+        generate::with_relays(r, &plain).into_bytes()
+    } else {
+        plain.into_bytes()
+    }
+}
+
+/// Timetables by chance of a sheet, sound and damaged.
+fn papers(t: &mut Tally, r: &mut Random, sheet: &[u8], read: &Sheet) {
+    for _ in 0..3 {
+        let table = generate::table(r, read);
+        let paper = reference::write_table(read, &table).into_bytes();
+        t.mark(sheet, &paper);
+        t.mark(sheet, generate::shifted(r, read, &table).as_bytes());
+        t.mark(sheet, &generate::damaged(r, &paper));
+        let twice = generate::damaged(r, &paper);
+        t.mark(sheet, &generate::damaged(r, &twice));
+    }
+}
+
+/// Timetables with relays put at, inside and behind other runs, on the sheet with limits close to what they need.
+fn relay_papers(t: &mut Tally, r: &mut Random, read: &Sheet) {
+    for _ in 0..5 {
+        let table = generate::table(r, read);
+        let mut beside = generate::put_relay(r, read, &table);
+        while r.one_in(4) {
+            beside = generate::put_relay(r, read, &beside);
+        }
+        for put in [beside, generate::put_last(r, read, &table)] {
+            let sheet = generate::write_sheet(&generate::limited(r, read, &put));
+            let mut paper = reference::write_table(read, &put);
+            if r.one_in(8) {
+                paper = generate::untrue(r, &paper);
+            }
+            t.mark(sheet.as_bytes(), paper.as_bytes());
+        }
+    }
+}
+
+fn round(t: &mut Tally, r: &mut Random, number: u64) {
+    let plain = generate::sheet(r, if number % 50 == 0 { 64 } else { 7 });
+    let sheet = drawn(r, plain);
+    let written = t.planners(r, &sheet);
+    let read = reference::read_sheet(&sheet).expect("a sound sheet");
+    t.relays.sheet(&read);
+    papers(t, r, &sheet, &read);
+    if has_relays(&read) {
+        relay_papers(t, r, &read);
+    }
+    if let Some(paper) = written {
+        for _ in 0..3 {
+            t.mark(&sheet, &generate::damaged(r, &paper));
+        }
+        let bad = generate::damaged(r, &sheet);
+        t.mark(&bad, &paper);
+    }
+    let bad = generate::damaged(r, &sheet);
+    t.planners(r, &bad);
+    let noise = generate::noise(r);
+    t.mark(&noise, &sheet);
+    t.mark(&sheet, &noise);
+    if number % 40 == 0 {
+        let long = generate::long(r, &sheet);
+        t.mark(&long, &sheet);
+        t.mark(&sheet, &long);
+        t.planners(r, &long);
+    }
+}
+
+/// Sheets of many tasks, some of them with relays too.
+fn large(t: &mut Tally, r: &mut Random) {
+    for (tasks, relays) in [(8, 1), (24, 0), (32, 1), (48, 0), (64, 1)] {
+        let plain = generate::large_sheet(r, tasks);
+        let mut sheets = vec![plain.clone()];
+        sheets.extend((0..relays).map(|_| generate::with_relays(r, &plain)));
+        for sheet in sheets {
+            let read = reference::read_sheet(sheet.as_bytes()).expect("a sound sheet");
+            t.relays.sheet(&read);
+            t.planners(r, sheet.as_bytes());
+        }
+    }
+}
+
 fn main() {
     let rounds: u64 = std::env::args()
         .nth(1)
         .map_or(4000, |a| a.parse().expect("a number of rounds"));
-    let mut t = Tally {
-        marks: BTreeMap::new(),
-        plans: BTreeMap::new(),
-        cases: 0,
-    };
+    let mut t = Tally::default();
     edges(&mut t);
     let mut r = Random(20_261_115);
-    for round in 0..rounds {
-        let most = if round % 50 == 0 { 64 } else { 7 };
-        let sheet = generate::sheet(&mut r, most).into_bytes();
-        let written = t.planners(&mut r, &sheet);
-        let read = reference::read_sheet(&sheet).expect("a sound sheet");
-        for _ in 0..3 {
-            let table = generate::table(&mut r, &read);
-            let paper = reference::write_table(&read, &table).into_bytes();
-            t.mark(&sheet, &paper);
-            t.mark(&sheet, generate::shifted(&mut r, &read, &table).as_bytes());
-            t.mark(&sheet, &generate::damaged(&mut r, &paper));
-            let twice = generate::damaged(&mut r, &paper);
-            t.mark(&sheet, &generate::damaged(&mut r, &twice));
-        }
-        if let Some(paper) = written {
-            for _ in 0..3 {
-                t.mark(&sheet, &generate::damaged(&mut r, &paper));
-            }
-            let bad = generate::damaged(&mut r, &sheet);
-            t.mark(&bad, &paper);
-        }
-        let bad = generate::damaged(&mut r, &sheet);
-        t.planners(&mut r, &bad);
-        let noise = generate::noise(&mut r);
-        t.mark(&noise, &sheet);
-        t.mark(&sheet, &noise);
-        if round % 40 == 0 {
-            let long = generate::long(&mut r, &sheet);
-            t.mark(&long, &sheet);
-            t.mark(&sheet, &long);
-            t.planners(&mut r, &long);
-        }
+    for number in 0..rounds {
+        round(&mut t, &mut r, number);
     }
-    for tasks in [8, 24, 32, 48, 64] {
-        let sheet = generate::large_sheet(&mut r, tasks).into_bytes();
-        t.planners(&mut r, &sheet);
-    }
+    large(&mut t, &mut r);
     let mut ok = t.print(
         "marker",
         &t.marks,
         &[0, 1, 2, 3, 4, 11, 12, 13, 14, 15, 16, 17, 18],
     );
     ok &= t.print("planner", &t.plans, &[0, 1, 2, 3, 4, 21, 31]);
+    t.relays.print();
     println!("{} cases, no difference", t.cases);
     if !ok {
         eprintln!("an answer was never reached");
+    }
+    let faults = t.relays.faults();
+    for fault in &faults {
+        eprintln!("{fault}");
+    }
+    if !ok || !faults.is_empty() {
         std::process::exit(1);
     }
 }

@@ -1,4 +1,4 @@
-//! An implementation of document 01 for tests, written from the document in another way than the proved code:
+//! An implementation of document 01 with Order 1 for tests, written from the documents in another way than the proved code:
 //! texts are split into words, memory is a list of changes sorted by tick, weights are by recursion.
 
 use std::collections::BTreeMap;
@@ -117,7 +117,7 @@ pub fn read_sheet(text: &[u8]) -> Result<Sheet, Refused> {
     ];
     let ranges = |kind: usize| match kind {
         0 => vec![(1, 8), (0, BIG), (1, 8), (0, BIG)],
-        1 => vec![(1, 64), (1, 1_000_000), (1, 1_000_000)],
+        1 => vec![(1, 64), (0, 1_000_000), (0, 1_000_000)],
         _ => vec![(1, 64), (1, 64), (0, 1_000_000), (1, 1_000_000)],
     };
     let mut sheet: Option<Sheet> = None;
@@ -248,6 +248,20 @@ pub fn finish(sheet: &Sheet, table: &Table, i: usize) -> i64 {
     s + sheet.tasks[i][sheet.colour(p)]
 }
 
+/// Until when the inputs of a run are held in its memory: its finish; until s + 1 for a run of time 0 at s.
+fn release(sheet: &Sheet, table: &Table, i: usize) -> i64 {
+    let (p, s) = run(table, i);
+    match sheet.tasks[i][sheet.colour(p)] {
+        0 => s + 1,
+        time => s + time,
+    }
+}
+
+/// Two runs share an instant when each starts before the other's finish.
+fn share(sheet: &Sheet, table: &Table, i: usize, j: usize) -> bool {
+    run(table, i).1 < finish(sheet, table, j) && run(table, j).1 < finish(sheet, table, i)
+}
+
 /// The holds of one memory: size, first tick, and the tick at which it ends, if it does.
 fn holds(sheet: &Sheet, table: &Table, colour: usize) -> Vec<(i64, i64, Option<i64>)> {
     let mut all = vec![];
@@ -260,7 +274,7 @@ fn holds(sheet: &Sheet, table: &Table, colour: usize) -> Vec<(i64, i64, Option<i
             None if here => all.push((f.size, s, None)),
             None => {}
             Some(_) => {
-                let end = finish(sheet, table, f.reader);
+                let end = release(sheet, table, f.reader);
                 let moved = moves(sheet, table, f);
                 let t = table.moves[k];
                 if here && !moved {
@@ -312,16 +326,11 @@ pub fn span(sheet: &Sheet, table: &Table) -> i64 {
 /// 15 to 17: the first fault of a complete timetable.
 pub fn fault(sheet: &Sheet, table: &Table) -> Option<Refused> {
     let n = sheet.tasks.len();
-    let mut busy: Vec<(i64, i64, i64, usize)> = (0..n)
-        .map(|i| (run(table, i).0, run(table, i).1, finish(sheet, table, i), i))
-        .collect();
-    busy.sort();
     let mut shared = vec![];
-    for (at, a) in busy.iter().enumerate() {
-        for b in busy[at + 1..].iter().take_while(|b| b.0 == a.0) {
-            if b.1 < a.2 {
-                shared.push(a.3);
-                shared.push(b.3);
+    for i in 0..n {
+        for j in i + 1..n {
+            if run(table, i).0 == run(table, j).0 && share(sheet, table, i, j) {
+                shared.push(i);
             }
         }
     }
