@@ -37,7 +37,7 @@ enum frames_number {
     FRAMES_PAPER_MALFORMED = 12,     /* a line of it is none of its three forms, lacks its LF, or is missing (line) */
     FRAMES_PAPER_OUT_OF_RANGE = 13,  /* a number of it is out of its range (line) */
     FRAMES_PAPER_NOT_DUE = 14,       /* a readable line of it is not the one due (line) */
-    FRAMES_OVERLAP = 15,             /* two runs on one processor share an instant (lowest such task) */
+    FRAMES_OVERLAP = 15,             /* two runs on one processor share an instant: each starts before the other's finish (lowest such task) */
     FRAMES_EARLY = 16,               /* a task starts before a file that it reads has arrived, or a file moves before it is made (lowest reader) */
     FRAMES_OVER_LIMIT = 17,          /* a memory holds more than its limit (first such tick) */
     FRAMES_CLAIM_UNTRUE = 18,        /* the claim is untrue (0) */

@@ -1,8 +1,21 @@
-// Timetables marked: examples e to m of document 01, papers that neither planner would make, each refusal, and relays.
-mod relays;
-mod show;
+// Timetables marked: examples e to m of document 01, papers that neither planner would make, and each refusal.
+use console::print_number;
+use libc::STDOUT_FILENO;
 
-use show::show;
+// Prints what is shown, the verdict, and the line at fault.
+fn show<'a>(what: &'a [u8], sheet: &'a [u8], paper: &'a [u8]) {
+    let v = frames::mark(sheet, paper);
+    io::write_all(STDOUT_FILENO, what);
+    io::write_all(STDOUT_FILENO, b":");
+    print_number(v.number);
+    print_number(v.place);
+    print_number(v.span);
+    print_number(v.blue_peak);
+    print_number(v.red_peak);
+    io::write_all(STDOUT_FILENO, b" [");
+    io::write_all(STDOUT_FILENO, frames::fault_line(sheet, paper));
+    io::write_all(STDOUT_FILENO, b"]\n");
+}
 
 // Document 01's own.
 fn examples() {
@@ -180,5 +193,4 @@ fn main() {
     unusual();
     text_faults();
     order_of_refusals();
-    relays::all();
 }
