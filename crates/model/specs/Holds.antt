@@ -2,7 +2,7 @@
 use Prim.Native.Nat.{ℕ, _≤_}
 use mathlib.Core.Path.{_≡_}
 use mathlib.Core.Bool.{Bool, cond}
-use Rattle.rules.specs.Model.{Instance, fileAt, Schedule, startAt, moveAt, releaseOf, makerRun, readerRun, moved, madeAt, moveEnd}
+use Rattle.rules.specs.Model.{Instance, fileAt, Schedule, startAt, moveAt, releaseAt, makerRun, moved, madeAt, moveEnd}
 use Rattle.rules.specs.Residency.{Hold as Held, never, during, since, closedHold, openHold, settles}
 use Rattle.model.specs.declared.residency.FileTimes.{FileTimes}
 use Rattle.model.specs.declared.residency.Hold.{Hold}
@@ -16,7 +16,7 @@ pub record TimesOf (I : Instance) (P : Schedule) (k : ℕ) (t : FileTimes) : Typ
   pub departs : t .departs ≡ moveAt P k
   pub arrives : t .arrives ≡ moveEnd I P k
   pub starts : t .starts ≡ startAt P (fileAt I k .reader)
-  pub released : t .released ≡ releaseOf I (fileAt I k .reader) (readerRun I P k)
+  pub released : t .released ≡ releaseAt I P (fileAt I k .reader)
 
 -- no time is later than b
 pub record TimesWithin (b : ℕ) (t : FileTimes) : Type 0 where

@@ -190,7 +190,7 @@ JobInBounds b job = JobBounds b (jobOf job)
 abbrev pub InBounds : Shape → List ℕ → List ℕ → Type 0
 InBounds b job schedule = Bounds b (jobOf job) (entriesOf schedule)
 
--- no finish and no end of a move is later
+-- no finish, no release and no end of a move is later
 abbrev pub lastTick : ℕ
 lastTick = ticks .most + runTimes .most + moveTimes .most
 

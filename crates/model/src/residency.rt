@@ -1,7 +1,7 @@
 // When a memory holds a file, and how much it holds: document 01's hold rule with Order 1, for partial schedules too.
 ghost use mathlib.Core.Path.{_≡_};
 ghost use Prim.Native.Nat.{_<_, _≤_, max};
-ghost use Rattle.rules.specs.Model.{runAt, finishAt, releaseOf};
+ghost use Rattle.rules.specs.Model.{finishAt, releaseAt};
 ghost use Rattle.rules.specs.Residency.{covers as rules-covers, settles as rules-settles, holdOf, held, horizon};
 ghost use Rattle.model.specs.Layout.{instanceOf, scheduleOf, colourBy, InBounds, lastTick, mostHeld};
 ghost use Rattle.model.specs.Holds.{TimesOf, TimesWithin, asHold, holdWhen, Within};
@@ -79,8 +79,7 @@ pub fn release<'a>(
 ) -> u64
     requires { ⌜ InBounds shape (now job) (now schedule) ⌝ }
     requires { ⌜ i < shape .tasks ⌝ }
-    ensures { λ r. ⌜ r ≡
-        releaseOf (instanceOf shape (now (job .entry))) i (runAt (scheduleOf shape (now (schedule .entry))) i) ⌝ }
+    ensures { λ r. ⌜ r ≡ releaseAt (instanceOf shape (now (job .entry))) (scheduleOf shape (now (schedule .entry))) i ⌝ }
     ensures { λ r. ⌜ r ≤ lastTick ⌝ }
 {
     greater(

@@ -55,13 +55,19 @@ fn show_short() {
 
 // Relays, by Order 1.
 fn relays() {
+    // a file for four readers, by a chain of three relays
     show(b"relay_chain.sheet");
+    // tasks that are relays on one colour and take time on the other
     show(b"relay_one_colour.sheet");
+    // a relay last of all, with just the memory for what is held at the span, and with one block less
     show(b"relay_last.sheet");
     show(b"relay_last_less.sheet");
+    // the same with a file that moves
     show(b"relay_last_moved.sheet");
     show(b"relay_last_moved_less.sheet");
+    // a task that waits for what a relay reads: one tick more than the relay
     show(b"relay_release.sheet");
+    // relays only, limits equal to the sum of all file sizes, and one block less
     show(b"relay_all.sheet");
     show(b"relay_all_less.sheet");
     show(b"relay_mixed.sheet");

@@ -59,6 +59,26 @@ fn beside_a_run() {
     );
 }
 
+// The other way round: task 2 takes time on blue, and is a relay on red.
+fn beside_a_red_run() {
+    let sheet = b"(board (blue 1 0) (red 1 0))\n(task 1 4 4)\n(task 2 3 0)\n";
+    show(
+        b"15: a relay inside a run on red",
+        sheet,
+        b"(run 1 2 0)\n(run 2 2 2)\n(claim 4 0 0)\n",
+    );
+    show(
+        b"a relay at the start of a run on red",
+        sheet,
+        b"(run 1 2 3)\n(run 2 2 3)\n(claim 7 0 0)\n",
+    );
+    show(
+        b"15: no relay on blue, at the start of a run",
+        sheet,
+        b"(run 1 1 3)\n(run 2 1 3)\n(claim 7 0 0)\n",
+    );
+}
+
 // Relays beside several runs, and beside each other.
 fn beside_others() {
     show(
@@ -181,10 +201,12 @@ fn released() {
 
 // A chain of relays at one tick: what each reads and what it makes is held together.
 fn chained() {
+    let sheet =
+        b"(board (blue 1 7) (red 1 0))\n(task 1 2 9)\n(task 2 0 9)\n(task 3 0 9)\n(task 4 3 9)\n(file 1 2 2 1)\n(file 2 3 4 1)\n(file 3 4 1 1)\n";
     let paper = b"(run 1 1 0)\n(run 2 1 2)\n(run 3 1 2)\n(run 4 1 2)\n(claim 5 7 0)\n";
     show(
         b"a chain of relays at one tick, all its files together",
-        b"(board (blue 1 7) (red 1 0))\n(task 1 2 9)\n(task 2 0 9)\n(task 3 0 9)\n(task 4 3 9)\n(file 1 2 2 1)\n(file 2 3 4 1)\n(file 3 4 1 1)\n",
+        sheet,
         paper,
     );
     show(
@@ -194,17 +216,18 @@ fn chained() {
     );
     show(
         b"18: the same without the files that the relays read",
-        b"(board (blue 1 7) (red 1 0))\n(task 1 2 9)\n(task 2 0 9)\n(task 3 0 9)\n(task 4 3 9)\n(file 1 2 2 1)\n(file 2 3 4 1)\n(file 3 4 1 1)\n",
+        sheet,
         b"(run 1 1 0)\n(run 2 1 2)\n(run 3 1 2)\n(run 4 1 2)\n(claim 5 2 0)\n",
     );
 }
 
 // A relay last of all: what it reads is held at the span.
 fn last() {
+    let sheet = b"(board (blue 1 5) (red 1 0))\n(task 1 0 9)\n(task 2 0 9)\n(file 1 2 5 1)\n";
     let paper = b"(run 1 1 3)\n(run 2 1 3)\n(claim 3 5 0)\n";
     show(
         b"a relay last of all, its file held at the span",
-        b"(board (blue 1 5) (red 1 0))\n(task 1 0 9)\n(task 2 0 9)\n(file 1 2 5 1)\n",
+        sheet,
         paper,
     );
     show(
@@ -214,17 +237,34 @@ fn last() {
     );
     show(
         b"18: the same without the file held at the span",
-        b"(board (blue 1 5) (red 1 0))\n(task 1 0 9)\n(task 2 0 9)\n(file 1 2 5 1)\n",
+        sheet,
         b"(run 1 1 3)\n(run 2 1 3)\n(claim 3 0 0)\n",
+    );
+}
+
+// The same at the last tick that a timetable can name.
+fn last_tick() {
+    let paper = b"(run 1 1 999999999)\n(run 2 1 999999999)\n(claim 999999999 5 0)\n";
+    show(
+        b"a relay at the last tick that can be written",
+        b"(board (blue 1 5) (red 1 0))\n(task 1 0 9)\n(task 2 0 9)\n(file 1 2 5 1)\n",
+        paper,
+    );
+    show(
+        b"17: the same with a limit one less, at that tick",
+        b"(board (blue 1 4) (red 1 0))\n(task 1 0 9)\n(task 2 0 9)\n(file 1 2 5 1)\n",
+        paper,
     );
 }
 
 // Two relays last of all.
 fn two_last() {
+    let sheet =
+        b"(board (blue 1 7) (red 1 0))\n(task 1 2 9)\n(task 2 0 9)\n(task 3 0 9)\n(file 1 2 3 1)\n(file 2 3 4 1)\n";
     let paper = b"(run 1 1 0)\n(run 2 1 2)\n(run 3 1 2)\n(claim 2 7 0)\n";
     show(
         b"two relays last of all, both files held at the span",
-        b"(board (blue 1 7) (red 1 0))\n(task 1 2 9)\n(task 2 0 9)\n(task 3 0 9)\n(file 1 2 3 1)\n(file 2 3 4 1)\n",
+        sheet,
         paper,
     );
     show(
@@ -234,7 +274,7 @@ fn two_last() {
     );
     show(
         b"18: the same with the greater file alone",
-        b"(board (blue 1 7) (red 1 0))\n(task 1 2 9)\n(task 2 0 9)\n(task 3 0 9)\n(file 1 2 3 1)\n(file 2 3 4 1)\n",
+        sheet,
         b"(run 1 1 0)\n(run 2 1 2)\n(run 3 1 2)\n(claim 2 4 0)\n",
     );
 }
@@ -331,12 +371,14 @@ fn moved_last() {
 
 fn main() {
     beside_a_run();
+    beside_a_red_run();
     beside_others();
     reading();
     making();
     released();
     chained();
     last();
+    last_tick();
     two_last();
     alone();
     over_colours();

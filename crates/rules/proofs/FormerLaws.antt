@@ -1,28 +1,41 @@
--- On a sheet without a run time of 0 Order 1 changed nothing: formerHeldLaw, formerFreeLaw, formerValidLaw, formerPlaceLaw.
-use Prim.Native.Nat.{ℕ, _+_, _≤_, _<_}
-use mathlib.Core.Bool.{cond}
+-- For runs that take time Order 1 changed nothing: instantLaw, formerHeldLaw, formerFreeLaw, formerValidLaw, formerPlaceLaw.
+use Prim.Native.Nat.{ℕ, _+_, _≤_, _<_, max}
+use mathlib.Core.Bool.{true, cond}
 use mathlib.Core.Path.{_≡_, sym, ap}
 use native.Mathlib.Omega.{arith}
-use Rattle.rules.specs.Model.{Colour, Instance, limitOf, taskCount, fileAt, fileCount, sizeAt, Schedule, runAt, colourOf, finishOf, releaseOf, startAt, finishAt, readerRun}
+use Rattle.rules.specs.Model.{Colour, Instance, limitOf, taskCount, fileAt, fileCount, sizeAt, isPlaced, Schedule, runAt, finishOf, releaseOf}
+use Rattle.rules.specs.Model.{startAt, finishAt, readerRun}
 use Rattle.rules.specs.Residency.{covers, holdBy, holdOf, held}
 use Rattle.rules.specs.Validity.{Claim, ShareInstant, Apart, WithinLimits, Greatest, Valid, Shares, OverLimit}
 use Rattle.rules.specs.Promises.{WellFormed}
-use Rattle.rules.specs.FormerRules.{FormerShare, formerHold, formerHeld, FormerShares, FormerOver, FormerApart, FormerWithin, FormerValid, TakeTime}
-use Rattle.rules.specs.FormerRules.{FormerHeldLaw, FormerFreeLaw, FormerValidLaw, FormerPlaceLaw}
+use Rattle.rules.specs.FormerRules.{FormerShareInstant, formerHold, formerHeld, FormerShares, FormerOver, FormerApart, FormerWithin, FormerValid}
+use Rattle.rules.specs.FormerRules.{InstantLaw, RunsTakeTime, FormerHeldLaw, FormerFreeLaw, FormerValidLaw, FormerPlaceLaw}
+use Rattle.rules.proofs.Tests.{split}
 use Rattle.rules.proofs.CountLaws.{sum-cong}
-use Rattle.rules.proofs.RelayLaws.{releaseLaw, instantLaw}
 use Rattle.rules.proofs.ResidencyLaws.{freeFromLaw}
+use Rattle.rules.proofs.CompleteLaws.{Complete, spellable-complete}
 use Rattle.rules.proofs.PlaceLaws.{first-same, placeLaw}
 
-module _ (I : Instance) (W : WellFormed I) (T : TakeTime I) (P : Schedule) where
+pub instantLaw : InstantLaw
+instantLaw I P i j a b = (
+  (λ x. record {
+    instant = max (startAt P i) (startAt P j);
+    first = record { begun = omega arith; unfinished = omega (arith, x .first, x .second) };
+    second = record { begun = omega arith; unfinished = omega (arith, x .first, x .second) };
+  }),
+  (λ x. record { first = omega (arith, x .first .begun, x .second .unfinished); second = omega (arith, x .second .begun, x .first .unfinished) }),
+)
+
+module _ (I : Instance) (W : WellFormed I) (P : Schedule) (T : RunsTakeTime I P) where
   -- ---- what is held
+
+  released : (k : ℕ) → k < fileCount I → isPlaced (readerRun I P k) ≡ true
+      → releaseOf I (fileAt I k .reader) (readerRun I P k) ≡ finishOf I (fileAt I k .reader) (readerRun I P k)
+  released k l q = omega (arith, T (fileAt I k .reader) (W .exists k l) q)
 
   hold-same : (c : Colour) (k : ℕ) → k < fileCount I → holdOf I P c k ≡ formerHold I P c k
   unfolding holdBy formerHold
-  hold-same c k l =
-      let released : releaseOf I (fileAt I k .reader) (readerRun I P k) ≡ finishOf I (fileAt I k .reader) (readerRun I P k) =
-      releaseLaw I (fileAt I k .reader) (readerRun I P k) .1 (T (colourOf I (readerRun I P k)) (fileAt I k .reader) (W .exists k l)) in
-      rw released
+  hold-same c k l = split (isPlaced (readerRun I P k)) (λ q. rw (released k l q)) (λ q. rw q)
 
   held-same : (c : Colour) (t : ℕ) → held I P c t ≡ formerHeld I P c t
   unfolding held formerHeld
@@ -46,18 +59,17 @@ module _ (I : Instance) (W : WellFormed I) (T : TakeTime I) (P : Schedule) where
   former-free : (c : Colour) (need s : ℕ) → ((u : ℕ) → s ≤ u → formerHeld I P c u + need ≤ limitOf I c) → (u : ℕ) → s ≤ u → held I P c u + need ≤ limitOf I c
   former-free c need s h u l = omega (arith, h u l, held-same c u)
 
+module _ (I : Instance) (W : WellFormed I) (P : Schedule) (T : RunsTakeTime I P) (complete : Complete I P) where
   -- ---- sharing an instant
 
   takes : (i : ℕ) → i < taskCount I → startAt P i < finishAt I P i
-  takes i l = omega (arith, T (colourOf I (runAt P i)) i l)
+  takes i l = T i l (complete i l)
 
-  share-former : (i j : ℕ) → i < taskCount I → j < taskCount I → ShareInstant I P i j → FormerShare I P i j
-  share-former i j l m x =
-      let (t, a, b) = instantLaw I P i j (takes i l) (takes j m) .0 x in
-      record { instant = t; first = a; second = b }
+  share-former : (i j : ℕ) → i < taskCount I → j < taskCount I → ShareInstant I P i j → FormerShareInstant I P i j
+  share-former i j l m = instantLaw I P i j (takes i l) (takes j m) .0
 
-  former-share : (i j : ℕ) → i < taskCount I → j < taskCount I → FormerShare I P i j → ShareInstant I P i j
-  former-share i j l m x = instantLaw I P i j (takes i l) (takes j m) .1 (x .instant, x .first, x .second)
+  former-share : (i j : ℕ) → i < taskCount I → j < taskCount I → FormerShareInstant I P i j → ShareInstant I P i j
+  former-share i j l m = instantLaw I P i j (takes i l) (takes j m) .1
 
   shares-former : (i : ℕ) → Shares I P i → FormerShares I P i
   shares-former i x = record {
@@ -96,52 +108,55 @@ module _ (I : Instance) (W : WellFormed I) (T : TakeTime I) (P : Schedule) where
   valid-former claim v = record {
     apart = apart-former (v .apart);
     onTime = v .onTime;
-    within = within-former (v .within);
+    within = within-former I W P T (v .within);
     span = v .span;
-    bluePeak = greatest-same _ _ _ (λ t. held-same _ t) (v .bluePeak);
-    redPeak = greatest-same _ _ _ (λ t. held-same _ t) (v .redPeak);
+    bluePeak = greatest-same _ _ _ (λ t. held-same I W P T _ t) (v .bluePeak);
+    redPeak = greatest-same _ _ _ (λ t. held-same I W P T _ t) (v .redPeak);
   }
 
   former-valid : (claim : Claim) → FormerValid I P claim → Valid I P claim
   former-valid claim v = record {
     apart = former-apart (v .apart);
     onTime = v .onTime;
-    within = former-within (v .within);
+    within = former-within I W P T (v .within);
     span = v .span;
-    bluePeak = greatest-same _ _ _ (λ t. sym (held-same _ t)) (v .bluePeak);
-    redPeak = greatest-same _ _ _ (λ t. sym (held-same _ t)) (v .redPeak);
+    bluePeak = greatest-same _ _ _ (λ t. sym (held-same I W P T _ t)) (v .bluePeak);
+    redPeak = greatest-same _ _ _ (λ t. sym (held-same I W P T _ t)) (v .redPeak);
   }
 
 pub formerHeldLaw : FormerHeldLaw
-formerHeldLaw I W T P c t = held-same I W T P c t
+formerHeldLaw I W P T c t = held-same I W P T c t
 
 pub formerFreeLaw : FormerFreeLaw
-formerFreeLaw I W T P c need t = (
-  (λ e. first-same (free-former I W T P c need) (former-free I W T P c need) (freeFromLaw I P c need t .0 e)),
-  (λ f. freeFromLaw I P c need t .1 (first-same (former-free I W T P c need) (free-former I W T P c need) f)),
+formerFreeLaw I W P T c need t = (
+  (λ e. first-same (free-former I W P T c need) (former-free I W P T c need) (freeFromLaw I P c need t .0 e)),
+  (λ f. freeFromLaw I P c need t .1 (first-same (former-free I W P T c need) (free-former I W P T c need) f)),
 )
 
 pub formerValidLaw : FormerValidLaw
-formerValidLaw I W T P claim = (valid-former I W T P claim, former-valid I W T P claim)
+formerValidLaw I W P claim s T =
+    let all = spellable-complete I P claim s in
+    (valid-former I W P T all claim, former-valid I W P T all claim)
 
 pub formerPlaceLaw : FormerPlaceLaw
-formerPlaceLaw I W T P claim s =
+formerPlaceLaw I W P claim s T =
     let p = placeLaw I W P claim s in
+    let all = spellable-complete I P claim s in
     record {
       at15 = λ n. (
-        (λ e. first-same (shares-former I W T P) (former-shares I W T P) (p .at15 n .0 e)),
-        (λ f. p .at15 n .1 (first-same (former-shares I W T P) (shares-former I W T P) f)),
+        (λ e. first-same (shares-former I W P T all) (former-shares I W P T all) (p .at15 n .0 e)),
+        (λ f. p .at15 n .1 (first-same (former-shares I W P T all) (shares-former I W P T all) f)),
       );
       at16 = λ n. (
-        (λ e. let (a, f) = p .at16 n .0 e in (apart-former I W T P a, f)),
-        (λ x. p .at16 n .1 (former-apart I W T P (x .0), x .1)),
+        (λ e. let (a, f) = p .at16 n .0 e in (apart-former I W P T all a, f)),
+        (λ x. p .at16 n .1 (former-apart I W P T all (x .0), x .1)),
       );
       at17 = λ n. (
-        (λ e. let (a, o, f) = p .at17 n .0 e in (apart-former I W T P a, o, first-same (over-former I W T P) (former-over I W T P) f)),
-        (λ x. p .at17 n .1 (former-apart I W T P (x .0), x .1, first-same (former-over I W T P) (over-former I W T P) (x .2))),
+        (λ e. let (a, o, f) = p .at17 n .0 e in (apart-former I W P T all a, o, first-same (over-former I W P T) (former-over I W P T) f)),
+        (λ x. p .at17 n .1 (former-apart I W P T all (x .0), x .1, first-same (former-over I W P T) (over-former I W P T) (x .2))),
       );
       at18 = (
-        (λ e. let (a, o, w, n) = p .at18 .0 e in (apart-former I W T P a, o, within-former I W T P w, λ v. n (former-valid I W T P claim v))),
-        (λ x. p .at18 .1 (former-apart I W T P (x .0), x .1, former-within I W T P (x .2), λ v. x .3 (valid-former I W T P claim v))),
+        (λ e. let (a, o, w, n) = p .at18 .0 e in (apart-former I W P T all a, o, within-former I W P T w, λ v. n (former-valid I W P T all claim v))),
+        (λ x. p .at18 .1 (former-apart I W P T all (x .0), x .1, former-within I W P T (x .2), λ v. x .3 (valid-former I W P T all claim v))),
       );
     }

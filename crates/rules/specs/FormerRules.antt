@@ -1,21 +1,21 @@
--- The two rules that Order 1 changed, as document 01 has them by itself; and that on a sheet without a run time of 0 nothing changed.
+-- The two rules that Order 1 changed, as document 01 has them by itself; and that for runs that take time they mean what they did.
 use Prim.Native.Nat.{ℕ, suc, _+_, _≤_, _<_}
-use mathlib.Core.Bool.{cond}
+use mathlib.Core.Bool.{true, cond}
 use mathlib.Core.Path.{_≡_}
 use mathlib.Core.Logic.{_↔_}
 use mathlib.Core.Option.{some}
 use Rattle.rules.specs.Count.{sumWhere}
-use Rattle.rules.specs.Model.{Colour, blue, red, sameColour, Instance, limitOf, taskCount, taskAt, fileAt, fileCount, sizeAt, timeOn}
-use Rattle.rules.specs.Model.{isPlaced, Schedule, runAt, moveAt, colourOf, finishOf, crosses, finishAt, makerRun, readerRun, moveEnd}
+use Rattle.rules.specs.Model.{Colour, blue, red, sameColour, Instance, limitOf, taskCount, fileAt, fileCount, sizeAt}
+use Rattle.rules.specs.Model.{isPlaced, Schedule, runAt, startAt, moveAt, colourOf, finishOf, crosses, finishAt, makerRun, readerRun, moveEnd}
 use Rattle.rules.specs.Residency.{Hold, never, openHold, closedHold, covers, held}
-use Rattle.rules.specs.Validity.{Claim, Occupies, AllOnTime, Greatest, Valid, ReadsLate, refusedBy, judge}
+use Rattle.rules.specs.Validity.{Claim, Occupies, ShareInstant, AllOnTime, Greatest, Valid, ReadsLate, refusedBy, judge}
 use Rattle.rules.specs.Scheduling.{freeFrom}
 use Rattle.rules.specs.Promises.{WellFormed, Spellable, First}
 
 -- ---- the rules before Order 1
 
 -- the runs of tasks i and j share an instant: there is a tick at which both run
-pub record FormerShare (I : Instance) (P : Schedule) (i j : ℕ) : Type 0 where
+pub record FormerShareInstant (I : Instance) (P : Schedule) (i j : ℕ) : Type 0 where
   pub instant : ℕ
   pub first : Occupies I P i instant
   pub second : Occupies I P j instant
@@ -40,7 +40,7 @@ pub record FormerShares (I : Instance) (P : Schedule) (i : ℕ) : Type 0 where
   pub otherExists : other < taskCount I
   pub differs : i ≡ other → ⊥
   pub processor : runAt P i .processor ≡ runAt P other .processor
-  pub shares : FormerShare I P i other
+  pub shares : FormerShareInstant I P i other
 
 -- an instant at which a memory holds more than its limit
 pub record FormerOver (I : Instance) (P : Schedule) (t : ℕ) : Type 0 where
@@ -49,13 +49,14 @@ pub record FormerOver (I : Instance) (P : Schedule) (t : ℕ) : Type 0 where
 
 -- no two runs on one processor share an instant
 abbrev pub FormerApart : Instance → Schedule → Type 0
-FormerApart I P = (i j : ℕ) → i < taskCount I → j < taskCount I → (i ≡ j → ⊥) → runAt P i .processor ≡ runAt P j .processor → FormerShare I P i j → ⊥
+FormerApart I P =
+    (i j : ℕ) → i < taskCount I → j < taskCount I → (i ≡ j → ⊥) → runAt P i .processor ≡ runAt P j .processor → FormerShareInstant I P i j → ⊥
 
 -- at no instant is more held than the limit
 abbrev pub FormerWithin : Instance → Schedule → Type 0
 FormerWithin I P = (c : Colour) (t : ℕ) → formerHeld I P c t ≤ limitOf I c
 
--- document 01's valid timetable
+-- document 01's valid timetable, before Order 1
 pub record FormerValid (I : Instance) (P : Schedule) (claim : Claim) : Type 0 where
   pub apart : FormerApart I P
   pub onTime : AllOnTime I P
@@ -71,29 +72,37 @@ pub record FormerPlaces (I : Instance) (P : Schedule) (claim : Claim) : Type 0 w
   pub at17 : (n : ℕ) → (judge I P claim ≡ refusedBy 17 n) ↔ (FormerApart I P × AllOnTime I P × First (FormerOver I P) n)
   pub at18 : (judge I P claim ≡ refusedBy 18 0) ↔ (FormerApart I P × AllOnTime I P × FormerWithin I P × (FormerValid I P claim → ⊥))
 
--- ---- that nothing changed
+-- ---- that nothing changed for runs that take time. Alone each of these is met by any rule for runs of time 0; RelayExact says what holds of them
 
--- each task takes time on either colour: no run time of 0
-abbrev pub TakeTime : Instance → Type 0
-TakeTime I = (c : Colour) (i : ℕ) → i < taskCount I → 1 ≤ timeOn c (taskAt I i)
+-- two runs that take time share an instant exactly if there is a tick at which both run.
+-- Not: a run refused that starts at another's finish
+abbrev pub InstantLaw : Type 0
+InstantLaw =
+    (I : Instance) (P : Schedule) (i j : ℕ) → startAt P i < finishAt I P i → startAt P j < finishAt I P j → ShareInstant I P i j ↔ FormerShareInstant I P i j
 
--- what is held at each instant, of partial schedules too: so starts 3 and 4, the peaks and 17 are what they were.
--- Not: each run's inputs kept one tick longer; the inputs of a run of time 1 kept until s + 2. Alone it is met by any rule for runs of time 0; ReleaseLaw
--- rules that out
+-- each run takes time
+abbrev pub RunsTakeTime : Instance → Schedule → Type 0
+RunsTakeTime I P = (i : ℕ) → i < taskCount I → isPlaced (runAt P i) ≡ true → startAt P i < finishAt I P i
+
+-- what is held at each instant, of partial schedules too.
+-- Not: each run's inputs kept one tick longer; the inputs of a run of time 1 kept until s + 2
 abbrev pub FormerHeldLaw : Type 0
-FormerHeldLaw = (I : Instance) → WellFormed I → TakeTime I → (P : Schedule) (c : Colour) (t : ℕ) → held I P c t ≡ formerHeld I P c t
+FormerHeldLaw = (I : Instance) → WellFormed I → (P : Schedule) → RunsTakeTime I P → (c : Colour) (t : ℕ) → held I P c t ≡ formerHeld I P c t
 
--- starts 3 and 4: the first tick from which on always `need` is free
+-- starts 3 and 4: the first tick from which on always `need` is free.
+-- Not: a task that waits one tick more for what the runs before it read
 abbrev pub FormerFreeLaw : Type 0
 FormerFreeLaw =
-    (I : Instance) → WellFormed I → TakeTime I → (P : Schedule) (c : Colour) (need t : ℕ) →
+    (I : Instance) → WellFormed I → (P : Schedule) → RunsTakeTime I P → (c : Colour) (need t : ℕ) →
     (freeFrom I P c need ≡ some t) ↔ First (λ s. (u : ℕ) → s ≤ u → formerHeld I P c u + need ≤ limitOf I c) t
 
--- the same timetables are valid.
--- Not: a run refused that starts at another's finish
+-- of the timetables that the due lines can spell the same are valid.
+-- Not: one refused in which a run starts at another's finish
 abbrev pub FormerValidLaw : Type 0
-FormerValidLaw = (I : Instance) → WellFormed I → TakeTime I → (P : Schedule) (claim : Claim) → Valid I P claim ↔ FormerValid I P claim
+FormerValidLaw =
+    (I : Instance) → WellFormed I → (P : Schedule) (claim : Claim) → Spellable I P claim → RunsTakeTime I P → Valid I P claim ↔ FormerValid I P claim
 
--- and the others are refused by the same number at the same place
+-- and the others are refused by the same number at the same place.
+-- Not: 17 one tick later; another of two tasks named
 abbrev pub FormerPlaceLaw : Type 0
-FormerPlaceLaw = (I : Instance) → WellFormed I → TakeTime I → (P : Schedule) (claim : Claim) → Spellable I P claim → FormerPlaces I P claim
+FormerPlaceLaw = (I : Instance) → WellFormed I → (P : Schedule) (claim : Claim) → Spellable I P claim → RunsTakeTime I P → FormerPlaces I P claim

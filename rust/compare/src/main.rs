@@ -1,6 +1,6 @@
-//! Compares the proved library with an implementation of document 01 with Order 1 of its own, on sound and damaged texts from a
+//! Compares the proved library with an implementation of its own of document 01 with Order 1, on sound and damaged texts from a
 //! fixed seed. Prints how often each answer was reached, and what was answered to timetables with relays; ends with an error at the
-//! first difference, or where an answer was never reached.
+//! first difference, where an answer was never reached, or where relays were marked as the rules do not allow.
 
 use compare::generate::{self, Random};
 use compare::reference::{self, Sheet};

@@ -34,10 +34,24 @@ fn runs(sheet: &Sheet, table: &Table) -> Vec<(i64, i64, i64)> {
         .collect()
 }
 
+/// The last finish.
+fn end(runs: &[(i64, i64, i64)]) -> i64 {
+    runs.iter().map(|(_, s, time)| s + time).max().unwrap()
+}
+
+/// Whether two runs that take time are at one tick on one processor.
+fn common_tick(sheet: &Sheet, table: &Table) -> bool {
+    let mut busy = runs(sheet, table);
+    busy.retain(|run| run.2 > 0);
+    busy.sort();
+    busy.windows(2)
+        .any(|w| w[0].0 == w[1].0 && w[1].1 < w[0].1 + w[0].2)
+}
+
 /// Which of the kinds a timetable shows.
 pub fn kinds(sheet: &Sheet, table: &Table) -> [bool; 5] {
     let runs = runs(sheet, table);
-    let end = runs.iter().map(|(_, s, time)| s + time).max().unwrap();
+    let end = end(&runs);
     let mut shown = [false; 5];
     for (i, (p, s, time)) in runs.iter().enumerate() {
         if *time != 0 {
@@ -61,7 +75,7 @@ pub fn kinds(sheet: &Sheet, table: &Table) -> [bool; 5] {
 /// The span, and what each memory holds at it: the files that relays read there.
 fn held_at_span(sheet: &Sheet, table: &Table) -> (i64, [i64; 2]) {
     let runs = runs(sheet, table);
-    let end = runs.iter().map(|(_, s, time)| s + time).max().unwrap();
+    let end = end(&runs);
     let mut held = [0, 0];
     for f in &sheet.files {
         let (p, s, time) = runs[f.reader];
@@ -78,8 +92,12 @@ pub struct Counts {
     answers: [BTreeMap<u64, u64>; 5],
     /// papers with files held at the span: accepted with a limit equal to that, refused by 17 at the span with a limit of one less
     at_span: (u64, u64),
-    /// sheets with relays, and all sheets
-    sheets: (u64, u64),
+    /// papers on which 15 was answered, and which have neither a relay inside another run nor two runs at one tick; or the other way round
+    misjudged: u64,
+    /// all sheets, those with relays, and of these with tasks of time 0 on blue alone, on red alone, and on both
+    sheets: u64,
+    with_relays: u64,
+    colours: [u64; 3],
     /// planned timetables in which a relay runs
     planned: u64,
     /// on sheets with relays, both limits equal to the sum of file sizes: planned, and stuck
@@ -88,8 +106,18 @@ pub struct Counts {
 
 impl Counts {
     pub fn sheet(&mut self, sheet: &Sheet) {
-        self.sheets.0 += u64::from(has_relays(sheet));
-        self.sheets.1 += 1;
+        self.sheets += 1;
+        self.with_relays += u64::from(has_relays(sheet));
+        for (colour, wanted) in [[true, false], [false, true], [true, true]]
+            .iter()
+            .enumerate()
+        {
+            let shown = sheet
+                .tasks
+                .iter()
+                .any(|t| t.map(|time| time == 0) == *wanted);
+            self.colours[colour] += u64::from(shown);
+        }
     }
 
     /// A paper and the marker's number and place for it.
@@ -105,6 +133,8 @@ impl Counts {
         for kind in (0..KINDS.len()).filter(|k| shown[*k]) {
             *self.answers[kind].entry(number).or_default() += 1;
         }
+        let shared = shown[INSIDE] || common_tick(&sheet, &table);
+        self.misjudged += u64::from(shared != (number == 15));
         let (end, held) = held_at_span(&sheet, &table);
         let limit = |less: i64| (0..2).any(|c| held[c] > 0 && sheet.limits[c] == held[c] - less);
         self.at_span.0 += u64::from(number == 0 && limit(0));
@@ -136,7 +166,11 @@ impl Counts {
     }
 
     pub fn print(&self) {
-        println!("sheets with relays: {} of {}", self.sheets.0, self.sheets.1);
+        let [blue, red, both] = self.colours;
+        println!(
+            "sheets with relays: {} of {}; on blue alone {blue}, on red alone {red}, on both {both}",
+            self.with_relays, self.sheets
+        );
         for (kind, name) in KINDS.iter().enumerate() {
             let [accepted, shared, early, over, untrue] = ANSWERS.map(|n| self.count(kind, n));
             println!(
@@ -159,17 +193,25 @@ impl Counts {
     pub fn faults(&self) -> Vec<String> {
         let mut all = vec![];
         for (kind, name) in KINDS.iter().enumerate() {
-            for number in ANSWERS.iter().filter(|n| kind != INSIDE || **n == 15) {
+            for number in ANSWERS.iter().filter(|n| (kind == INSIDE) == (**n == 15)) {
                 if self.count(kind, *number) == 0 {
                     all.push(format!("{name}: the answer {number} was never reached"));
                 }
             }
         }
-        if self.papers(INSIDE) != self.count(INSIDE, 15) {
-            all.push(format!("{}: not always refused by 15", KINDS[INSIDE]));
-        }
         let checks = [
-            (self.sheets.0 == 0, "no sheet had relays"),
+            (
+                self.misjudged > 0,
+                "15 without a relay inside another run or two runs at one tick, or one of these without 15",
+            ),
+            (
+                3 * self.with_relays < self.sheets,
+                "fewer than a third of the sheets had relays",
+            ),
+            (
+                self.colours.contains(&0),
+                "no sheet had relays on blue alone, on red alone, or on both",
+            ),
             (
                 self.at_span.0 == 0,
                 "a limit of what is held at the span: never accepted",
