@@ -1,15 +1,15 @@
--- For runs that take time Order 1 changed nothing: instantLaw, formerHeldLaw, formerFreeLaw, formerValidLaw, formerPlaceLaw.
+-- For runs that take time Order 1 changed nothing: instantLaw, sheetTakesTime, formerHeldLaw, formerFreeLaw, formerValidLaw, formerPlaceLaw.
 use Prim.Native.Nat.{ℕ, _+_, _≤_, _<_, max}
 use mathlib.Core.Bool.{true, cond}
 use mathlib.Core.Path.{_≡_, sym, ap}
 use native.Mathlib.Omega.{arith}
-use Rattle.rules.specs.Model.{Colour, Instance, limitOf, taskCount, fileAt, fileCount, sizeAt, isPlaced, Schedule, runAt, finishOf, releaseOf}
+use Rattle.rules.specs.Model.{Colour, Instance, limitOf, taskCount, fileAt, fileCount, sizeAt, isPlaced, Schedule, runAt, colourOf, finishOf, releaseOf}
 use Rattle.rules.specs.Model.{startAt, finishAt, readerRun}
 use Rattle.rules.specs.Residency.{covers, holdBy, holdOf, held}
 use Rattle.rules.specs.Validity.{Claim, ShareInstant, Apart, WithinLimits, Greatest, Valid, Shares, OverLimit}
 use Rattle.rules.specs.Promises.{WellFormed}
 use Rattle.rules.specs.FormerRules.{FormerShareInstant, formerHold, formerHeld, FormerShares, FormerOver, FormerApart, FormerWithin, FormerValid}
-use Rattle.rules.specs.FormerRules.{InstantLaw, RunsTakeTime, FormerHeldLaw, FormerFreeLaw, FormerValidLaw, FormerPlaceLaw}
+use Rattle.rules.specs.FormerRules.{InstantLaw, RunsTakeTime, SheetTakesTime, FormerHeldLaw, FormerFreeLaw, FormerValidLaw, FormerPlaceLaw}
 use Rattle.rules.proofs.Tests.{split}
 use Rattle.rules.proofs.CountLaws.{sum-cong}
 use Rattle.rules.proofs.ResidencyLaws.{freeFromLaw}
@@ -25,6 +25,9 @@ instantLaw I P i j a b = (
   }),
   (λ x. record { first = omega (arith, x .first .begun, x .second .unfinished); second = omega (arith, x .second .begun, x .first .unfinished) }),
 )
+
+pub sheetTakesTime : SheetTakesTime
+sheetTakesTime I T P i l q = omega (arith, T (colourOf I (runAt P i)) i l)
 
 module _ (I : Instance) (W : WellFormed I) (P : Schedule) (T : RunsTakeTime I P) where
   -- ---- what is held

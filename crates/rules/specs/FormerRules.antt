@@ -5,7 +5,7 @@ use mathlib.Core.Path.{_≡_}
 use mathlib.Core.Logic.{_↔_}
 use mathlib.Core.Option.{some}
 use Rattle.rules.specs.Count.{sumWhere}
-use Rattle.rules.specs.Model.{Colour, blue, red, sameColour, Instance, limitOf, taskCount, fileAt, fileCount, sizeAt}
+use Rattle.rules.specs.Model.{Colour, blue, red, sameColour, Instance, limitOf, taskCount, taskAt, fileAt, fileCount, sizeAt, timeOn}
 use Rattle.rules.specs.Model.{isPlaced, Schedule, runAt, startAt, moveAt, colourOf, finishOf, crosses, finishAt, makerRun, readerRun, moveEnd}
 use Rattle.rules.specs.Residency.{Hold, never, openHold, closedHold, covers, held}
 use Rattle.rules.specs.Validity.{Claim, Occupies, ShareInstant, AllOnTime, Greatest, Valid, ReadsLate, refusedBy, judge}
@@ -83,6 +83,11 @@ InstantLaw =
 -- each run takes time
 abbrev pub RunsTakeTime : Instance → Schedule → Type 0
 RunsTakeTime I P = (i : ℕ) → i < taskCount I → isPlaced (runAt P i) ≡ true → startAt P i < finishAt I P i
+
+-- on a sheet without a run time of 0 every schedule is such.
+-- Not: a relay on such a sheet
+abbrev pub SheetTakesTime : Type 0
+SheetTakesTime = (I : Instance) → ((c : Colour) (i : ℕ) → i < taskCount I → 1 ≤ timeOn c (taskAt I i)) → (P : Schedule) → RunsTakeTime I P
 
 -- what is held at each instant, of partial schedules too.
 -- Not: each run's inputs kept one tick longer; the inputs of a run of time 1 kept until s + 2
