@@ -70,6 +70,7 @@ fn relays() {
     // relays only, limits equal to the sum of all file sizes, and one block less
     show(b"relay_all.sheet");
     show(b"relay_all_less.sheet");
+    // relays on blue, on red and on both, among tasks that take time
     show(b"relay_mixed.sheet");
 }
 

@@ -1,6 +1,8 @@
 //! Board sheets and timetables by chance, from a fixed seed: sound ones, and ones with a fault.
 
-use crate::reference::{finish, peaks, read_sheet, span, write_table, Sheet, Table, MAX_TEXT};
+use crate::reference::{
+    finish, moves, peaks, read_sheet, span, write_table, Sheet, Table, MAX_TEXT,
+};
 
 /// A generator of numbers (SplitMix64).
 pub struct Random(pub u64);
@@ -191,17 +193,11 @@ fn relayed(sheet: &Sheet, t: &Table, i: usize) -> bool {
     finish(sheet, t, i) == t.runs[i].unwrap().1
 }
 
-/// Whether a file's tasks run in memories of different colour.
-fn crosses(sheet: &Sheet, t: &Table, k: usize) -> bool {
-    let colour = |i: usize| sheet.colour(t.runs[i].unwrap().0);
-    colour(sheet.files[k].maker) != colour(sheet.files[k].reader)
-}
-
 /// The first and last tick at which a relay is not early: its files have arrived, and those it makes are not yet wanted.
 fn timely(sheet: &Sheet, t: &Table, i: usize) -> (i64, i64) {
     let (mut first, mut last) = (0, i64::MAX);
     for (k, f) in sheet.files.iter().enumerate() {
-        let moved = crosses(sheet, t, k);
+        let moved = moves(sheet, t, f);
         if f.reader == i && moved {
             first = first.max(t.moves[k] + f.time);
         } else if f.reader == i {
@@ -272,9 +268,8 @@ pub fn put_last(r: &mut Random, sheet: &Sheet, table: &Table) -> Table {
     let mut moved = vec![relays[r.below(relays.len())]];
     if r.one_in(2) {
         for i in (0..moved[0]).rev() {
-            let mut made = (0..sheet.files.len()).filter(|k| sheet.files[*k].maker == i);
-            let alone =
-                made.all(|k| moved.contains(&sheet.files[k].reader) && !crosses(sheet, table, k));
+            let mut made = sheet.files.iter().filter(|f| f.maker == i);
+            let alone = made.all(|f| moved.contains(&f.reader) && !moves(sheet, table, f));
             if relayed(sheet, table, i) && makes(i) && alone {
                 moved.push(i);
             }

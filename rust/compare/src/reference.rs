@@ -239,7 +239,8 @@ fn run(table: &Table, i: usize) -> (i64, i64) {
     table.runs[i].unwrap()
 }
 
-fn moves(sheet: &Sheet, table: &Table, f: &File) -> bool {
+/// Whether a file's tasks run in memories of different colour.
+pub fn moves(sheet: &Sheet, table: &Table, f: &File) -> bool {
     sheet.colour(run(table, f.maker).0) != sheet.colour(run(table, f.reader).0)
 }
 
