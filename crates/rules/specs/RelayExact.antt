@@ -18,7 +18,7 @@ ReleaseLaw =
     (I : Instance) (i : ℕ) (r : Run) →
     (timeOn (colourOf I r) (taskAt I i) ≡ 0 → releaseOf I i r ≡ r .start + 1) × (1 ≤ timeOn (colourOf I r) (taskAt I i) → releaseOf I i r ≡ finishOf I i r)
 
--- from a run's start on, its memory holds a file that it reads until its release, whether or not the file moved there.
+-- from a run's start on, its memory holds a file that it reads, if on time, exactly until its release, whether or not the file moved there.
 -- Not: what a relay reads held at no instant, or at s + 1 too. With ReleaseLaw it fixes when the inputs of each run are given back
 abbrev pub InputsLaw : Type 0
 InputsLaw =
