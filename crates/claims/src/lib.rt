@@ -5,10 +5,12 @@ ghost use Prim.Native.Nat.{_<_, _≤_};
 ghost use Rattle.rules.specs.Validity.{makespan as rules-makespan, peak as rules-peak, trueClaim};
 ghost use Rattle.model.specs.Claims.{asClaim};
 ghost use Rattle.model.specs.Holds.{asHold};
-ghost use Rattle.model.specs.Layout.{entriesOf, instanceOf, scheduleOf, colourBy, InBounds, lastTick, mostHeld, Placed};
+ghost use Rattle.model.specs.Colours.{asColour};
+ghost use Rattle.model.specs.Layout.{entriesOf, instanceOf, scheduleOf, InBounds, lastTick, mostHeld, Placed};
 ghost use Rattle.claims.specs.Starts.{startOf, startIn};
 use model::choice::greater;
 use model::claim::Claim;
+use model::colour::Colour;
 use model::layout;
 use model::layout::Shape;
 use model::residency::Hold;
@@ -53,12 +55,12 @@ pub fn hold_start<'a>(
     job: &'a [u64; layout::JOB],
     schedule: &'a [u64; layout::SCHEDULE],
     k: usize,
-    colour: bool,
+    colour: Colour,
 ) -> u64
     requires { ⌜ InBounds shape (now job) (now schedule) ⌝ }
     requires { ⌜ k < shape .files ⌝ }
     ensures { λ r. ⌜ r ≡
-        startIn (instanceOf shape (now (job .entry))) (scheduleOf shape (now (schedule .entry))) (colourBy colour) k ⌝ }
+        startIn (instanceOf shape (now (job .entry))) (scheduleOf shape (now (schedule .entry))) (asColour colour) k ⌝ }
 {
     start_of(hold_of(shape, job, schedule, k, colour))
 }
@@ -68,12 +70,12 @@ pub fn peak<'a>(
     shape: Shape,
     job: &'a [u64; layout::JOB],
     schedule: &'a [u64; layout::SCHEDULE],
-    colour: bool,
+    colour: Colour,
 ) -> u64
     requires { ⌜ InBounds shape (now job) (now schedule) ⌝ }
     requires { ⌜ Placed shape (entriesOf (now schedule)) ⌝ }
     ensures { λ r. ⌜ r ≡
-        rules-peak (instanceOf shape (now (job .entry))) (scheduleOf shape (now (schedule .entry))) (colourBy colour) ⌝ }
+        rules-peak (instanceOf shape (now (job .entry))) (scheduleOf shape (now (schedule .entry))) (asColour colour) ⌝ }
     ensures { λ r. ⌜ r ≤ mostHeld ⌝ }
 {
     let mut most: u64 = 0;
@@ -100,7 +102,7 @@ pub fn true_claim<'a>(
 {
     Claim {
         span: makespan(shape, job, schedule),
-        blue_peak: peak(shape, job, schedule, true),
-        red_peak: peak(shape, job, schedule, false),
+        blue_peak: peak(shape, job, schedule, Colour::Blue),
+        red_peak: peak(shape, job, schedule, Colour::Red),
     }
 }

@@ -1,26 +1,13 @@
--- The cases of the small functions on holds and colours.
+-- The cases of the small functions on holds.
 use Prim.Native.Nat.{ℕ, _≤_, _<_, max}
-use mathlib.Core.Bool.{Bool, true, false, not}
-use mathlib.Core.Path.{_≡_, refl}
+use mathlib.Core.Bool.{false}
+use mathlib.Core.Path.{_≡_}
 use lib.Dec.{ltb, leb}
 use borrow.Author.Tests.{le-leb, lt-leb}
-use Rattle.rules.specs.Model.{sameColour}
 use Rattle.rules.specs.Residency.{covers, settles}
-use Rattle.rules.proofs.Tests.{clash}
 use Rattle.model.specs.declared.residency.Hold.{Hold}
 use Rattle.model.specs.declared.residency.Hold.the-variants.{During, Since}
-use Rattle.model.specs.Layout.{colourBy}
 use Rattle.model.specs.Holds.{asHold}
-
-pub same-true : (a b : Bool) → a ≡ true → b ≡ sameColour (colourBy a) (colourBy b)
-same-true true true e = refl
-same-true true false e = refl
-same-true false b e = clash e refl
-
-pub same-false : (a b : Bool) → a ≡ false → not b ≡ sameColour (colourBy a) (colourBy b)
-same-false false true e = refl
-same-false false false e = refl
-same-false true b e = clash refl e
 
 module _ (h : Hold) (t : ℕ) where
   pub covers-in : (a b : ℕ) → h ≡ During a b → a ≤ t → ltb t b ≡ covers (asHold h) t

@@ -1,23 +1,26 @@
 -- What the instance and the schedule made of the arrays are, by index, and the bounds of a well-formed instance's arrays.
 use Prim.Native.Nat.{ℕ, _+_, _≤_, _<_}
-use mathlib.Core.Bool.{Bool, true, false, cond}
 use mathlib.Core.List.{List}
 use mathlib.Core.Path.{_≡_, refl, sym, ap, _∙_}
 use native.Mathlib.Omega.{arith}
-use lib.Dec.{leb, eqb}
+use lib.Dec.{eqb}
+use borrow.Author.Tests.{le-leb, lt-leb}
 use lib.ListN.{getD}
 use Rattle.rules.specs.Model.{blue, red, Instance, Task, fileAt, fileCount, taskAt, taskCount, limitOf, sideOf, timeOn, sizeAt, moveTimeAt}
-use Rattle.rules.specs.Model.{Schedule, runAt, moveAt, finishAt}
+use Rattle.rules.specs.Model.{Schedule, runAt, moveAt, colourOf, finishAt}
 use Rattle.rules.specs.Scheduling.{reads, makes, finishOn}
 use Rattle.rules.specs.Limits.{processorCounts, runTimes}
 use Rattle.rules.specs.Promises.{In, WellFormed}
 use Rattle.rules.proofs.CountLaws.{length-listBelow, getD-listBelow}
 use Rattle.model.specs.declared.layout.Shape.{Shape}
-use Rattle.model.specs.Layout.{Job, Entries, taskFrom, fileFrom, runFrom, instanceFrom, scheduleFrom, partialFrom, colourBy, countIn, JobBounds, Bounds}
+use Rattle.model.specs.declared.colour.Colour.{Colour}
+use Rattle.model.specs.declared.colour.Colour.the-variants.{Blue, Red}
+use Rattle.model.specs.Colours.{asColour, byColour}
+use Rattle.model.specs.Layout.{Job, Entries, taskFrom, fileFrom, runFrom, instanceFrom, scheduleFrom, partialFrom, colourAt, countIn, JobBounds, Bounds}
 
-pub time-by : (x : Bool) (a : Task) → timeOn (colourBy x) a ≡ cond x (a .onBlue) (a .onRed)
-time-by true a = refl
-time-by false a = refl
+pub time-by : (x : Colour) (a : Task) → timeOn (asColour x) a ≡ byColour x (a .onBlue) (a .onRed)
+time-by Blue a = refl
+time-by Red a = refl
 
 module _ (b : Shape) (J : Job) where
   -- ---- the instance
@@ -38,15 +41,15 @@ module _ (b : Shape) (J : Job) where
   unfolding instanceFrom
   task-at i h = getD-listBelow (b .tasks) (taskFrom J) i _ h
 
-  pub limit-of : (c : Bool) → limitOf (instanceFrom b J) (colourBy c) ≡ cond c (b .board .blue .limit) (b .board .red .limit)
+  pub limit-of : (c : Colour) → limitOf (instanceFrom b J) (asColour c) ≡ byColour c (b .board .blue .limit) (b .board .red .limit)
   unfolding instanceFrom
-  limit-of true = refl
-  limit-of false = refl
+  limit-of Blue = refl
+  limit-of Red = refl
 
-  pub processors-of : (c : Bool) → sideOf (instanceFrom b J) (colourBy c) .processors ≡ countIn b c
+  pub processors-of : (c : Colour) → sideOf (instanceFrom b J) (asColour c) .processors ≡ countIn b c
   unfolding instanceFrom
-  processors-of true = refl
-  processors-of false = refl
+  processors-of Blue = refl
+  processors-of Red = refl
 
   pub size-at : (k : ℕ) → k < b .files → sizeAt (instanceFrom b J) k ≡ J .size k
   size-at k h = ap (λ f. f .size) (file-at k h)
@@ -69,15 +72,11 @@ module _ (b : Shape) (J : Job) where
     reads-at e = ap (λ j. eqb j i) (e ∙ sym (reader-at k h))
 
   -- the finish of a run that starts at s
-  pub finish-on-at : {i : ℕ} → i < b .tasks → (x : Bool) (s : ℕ) {t : ℕ} → t ≡ cond x (J .onBlue i) (J .onRed i)
-      → s + t ≡ finishOn (instanceFrom b J) i (colourBy x) s
+  pub finish-on-at : {i : ℕ} → i < b .tasks → (x : Colour) (s : ℕ) {t : ℕ} → t ≡ byColour x (J .onBlue i) (J .onRed i)
+      → s + t ≡ finishOn (instanceFrom b J) i (asColour x) s
   finish-on-at {i} h x s e = rw (task-at i h, time-by, e)
 
 -- ---- the schedule
-
--- whether task i runs on blue
-abbrev pub isBlue : Shape → Entries → ℕ → Bool
-isBlue b L i = leb (L .processor i) (b .board .blue .processors)
 
 module _ (b : Shape) (L : Entries) where
   pub run-at : (i : ℕ) → i < b .tasks → runAt (scheduleFrom b L) i ≡ runFrom L i
@@ -93,16 +92,22 @@ module _ (b : Shape) (L : Entries) where
       → getD (partialFrom b L last .lastFinish) p 0 ≡ getD last p 0
   last-finish-at last p h = getD-listBelow (b .board .blue .processors + b .board .red .processors) (λ p. getD last p 0) p 0 h
 
-module _ {b : Shape} {J : Job} {L : Entries} (f : Bounds b J L) where
-  abbrev I : Instance
-  I = instanceFrom b J
+-- the colour of a run, by its processor
+module _ (b : Shape) (L : Entries) {i p : ℕ} (e : p ≡ L .processor i) where
+  pub colour-blue : p ≤ b .board .blue .processors → blue ≡ colourAt b L i
+  colour-blue l = rw (le-leb (L .processor i) (b .board .blue .processors) (omega (arith, e)))
 
-  abbrev P : Schedule
-  P = scheduleFrom b L
+  pub colour-red : b .board .blue .processors < p → red ≡ colourAt b L i
+  colour-red l = rw (lt-leb (L .processor i) (b .board .blue .processors) (omega (arith, e)))
 
-  pub finish-at : {i : ℕ} → i < b .tasks → {s time : ℕ} {x : Bool} → s ≡ L .start i → x ≡ isBlue b L i → time ≡ cond x (J .onBlue i) (J .onRed i)
-      → s + time ≡ finishAt I P i
-  finish-at {i} h p q e = rw (run-at b L i h, task-at b J i h, processors-of b J true, time-by, p, e, q)
+-- ---- what the accessors read of a run
+module _ (b : Shape) (J : Job) (L : Entries) {i : ℕ} (h : i < b .tasks) where
+  pub colour-at : colourAt b L i ≡ colourOf (instanceFrom b J) (runAt (scheduleFrom b L) i)
+  colour-at = rw (run-at b L i h, processors-of b J Blue)
+
+  pub finish-at : (x : Colour) {s time : ℕ} → s ≡ L .start i → asColour x ≡ colourAt b L i → time ≡ byColour x (J .onBlue i) (J .onRed i)
+      → s + time ≡ finishAt (instanceFrom b J) (scheduleFrom b L) i
+  finish-at x p q e = rw (sym (q ∙ colour-at), task-at b J i h, time-by x (taskFrom J i), run-at b L i h, p, e)
 
 -- the arrays of a well-formed instance are in their bounds
 module _ (b : Shape) (J : Job) (w : WellFormed (instanceFrom b J)) where
@@ -134,12 +139,15 @@ module _ (b : Shape) (J : Job) (w : WellFormed (instanceFrom b J)) where
     tasks = omega (arith, task-count b J, w .tasks .most);
     files = omega (arith, file-count b J, w .files);
     processors = record { blue = blue-in; red = red-in };
-    blueLimit = omega (arith, limit-of b J true, w .limits blue .most);
-    redLimit = omega (arith, limit-of b J false, w .limits red .most);
+    blueLimit = omega (arith, limit-of b J Blue, w .limits blue .most);
+    redLimit = omega (arith, limit-of b J Red, w .limits red .most);
     onBlue = blue-time;
     onRed = red-time;
     maker = λ k h. omega (arith, w .ordered k (file-in h), w .exists k (file-in h), maker-at b J k h, reader-at b J k h, task-count b J);
     reader = λ k h. omega (arith, w .exists k (file-in h), reader-at b J k h, task-count b J);
     size = λ k h. omega (arith, w .sizes k (file-in h) .most, size-at b J k h);
-    moveTime = λ k h. omega (arith, w .moveTimes k (file-in h) .most, move-time-at b J k h);
+    moveTime = λ k h. record {
+      least = omega (arith, w .moveTimes k (file-in h) .least, move-time-at b J k h);
+      most = omega (arith, w .moveTimes k (file-in h) .most, move-time-at b J k h);
+    };
   }

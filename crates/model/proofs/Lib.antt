@@ -2,15 +2,15 @@
 
 -- one turn of a loop that sums, takes the greatest, or looks for an index
 pub mod StepLaws
--- the cases of the small functions on holds and colours
+-- the cases of the small functions on holds
 pub mod HoldCases
 -- the instance and the schedule of the arrays, by index
 pub mod LayoutLaws
 -- the arrays after a write
 pub mod WriteLaws
--- crossing files
+-- what a file costs between two colours
 pub mod CrossingLaws
--- what the two runs of a file imply: whether it moves, its times and its hold
+-- what the two runs of a file imply: its times and its hold
 pub mod FileLaws
 -- the loops over the files
 pub mod ResidencyLoops

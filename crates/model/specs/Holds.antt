@@ -1,8 +1,8 @@
 -- The times of a file and its hold, as the code has them and as the rules do.
-use Prim.Native.Nat.{ℕ, _≤_}
+use Prim.Native.Nat.{ℕ, _+_, _≤_}
 use mathlib.Core.Path.{_≡_}
 use mathlib.Core.Bool.{Bool, cond}
-use Rattle.rules.specs.Model.{Instance, fileAt, Schedule, startAt, moveAt, releaseAt, makerRun, moved, madeAt, moveEnd}
+use Rattle.rules.specs.Model.{Instance, fileAt, Schedule, startAt, moveAt, releaseAt, makerRun, moved, actualMoveTime, madeAt}
 use Rattle.rules.specs.Residency.{Hold as Held, never, during, since, closedHold, openHold, settles}
 use Rattle.model.specs.declared.residency.FileTimes.{FileTimes}
 use Rattle.model.specs.declared.residency.Hold.{Hold}
@@ -14,7 +14,7 @@ pub record TimesOf (I : Instance) (P : Schedule) (k : ℕ) (t : FileTimes) : Typ
   pub begun : t .begun ≡ makerRun I P k .start
   pub made : t .made ≡ madeAt I P k
   pub departs : t .departs ≡ moveAt P k
-  pub arrives : t .arrives ≡ moveEnd I P k
+  pub arrives : t .arrives ≡ moveAt P k + actualMoveTime I P k
   pub starts : t .starts ≡ startAt P (fileAt I k .reader)
   pub released : t .released ≡ releaseAt I P (fileAt I k .reader)
 

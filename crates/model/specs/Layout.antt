@@ -1,7 +1,8 @@
 -- The rules' instance and schedule, made of a shape and two arrays, and what the code asks of the arrays.
 use Prim.Native.Nat.{ℕ, _+_, _*_, _≤_, _<_}
-use mathlib.Core.Bool.{Bool, cond}
+use mathlib.Core.Bool.{cond}
 use mathlib.Core.List.{List}
+use lib.Dec.{leb}
 use lib.ListN.{getD, set}
 use Rattle.rules.specs.Count.{listBelow}
 use Rattle.rules.specs.Limits.{maxTasks, maxFiles, processorCounts, memoryLimits, runTimes, moveTimes, fileSizes, ticks}
@@ -10,6 +11,8 @@ use Rattle.rules.specs.Scheduling.{Partial}
 use Rattle.rules.specs.BoardType.{sideFrom}
 use Rattle.rules.specs.Promises.{In}
 use Rattle.model.specs.declared.layout.Shape.{Shape}
+use Rattle.model.specs.declared.colour.Colour.{Colour as Code}
+use Rattle.model.specs.Colours.{byColour}
 
 -- ---- what stands where
 
@@ -143,13 +146,13 @@ scheduleOf b schedule = scheduleFrom b (entriesOf schedule)
 abbrev pub partialOf : Shape → List ℕ → List ℕ → Partial
 partialOf b schedule last = partialFrom b (entriesOf schedule) last
 
--- the code's colour: blue is `true`
-abbrev pub colourBy : Bool → Colour
-colourBy flag = cond flag blue red
+-- the colour that task i runs on
+abbrev pub colourAt : Shape → Entries → ℕ → Colour
+colourAt b L i = cond (leb (L .processor i) (b .board .blue .processors)) blue red
 
 -- the processors of the colour
-abbrev pub countIn : Shape → Bool → ℕ
-countIn b flag = cond flag (b .board .blue .processors) (b .board .red .processors)
+abbrev pub countIn : Shape → Code → ℕ
+countIn b c = byColour c (b .board .blue .processors) (b .board .red .processors)
 
 -- ---- what the code asks of the arrays: every number in its range
 
@@ -173,7 +176,7 @@ pub record JobBounds (b : Shape) (J : Job) : Type 0 where
   pub maker : (k : ℕ) → k < b .files → J .maker k < b .tasks
   pub reader : (k : ℕ) → k < b .files → J .reader k < b .tasks
   pub size : Bounded (fileSizes .most) (b .files) (J .size)
-  pub moveTime : Bounded (moveTimes .most) (b .files) (J .moveTime)
+  pub moveTime : (k : ℕ) → k < b .files → In moveTimes (J .moveTime k)
 
 pub record ScheduleBounds (b : Shape) (L : Entries) : Type 0 where
   pub start : Bounded (ticks .most) (b .tasks) (L .start)

@@ -1,13 +1,14 @@
 // Where the numbers of an instance and of a schedule stand: a job array and a schedule array, beside a shape of plain numbers.
 // The places are known here only: other modules read and write the arrays by the functions below.
 ghost use mathlib.Core.Path.{_≡_};
-ghost use mathlib.Core.Bool.{cond};
 ghost use Prim.Native.Nat.{_<_, _≤_, max};
-ghost use lib.Dec.{leb};
 ghost use lib.ListN.{length, set};
 ghost use Rattle.rules.specs.Limits.{maxTasks, maxFiles};
-ghost use Rattle.model.specs.Layout.{JobInBounds, jobOf, entriesOf, withTaskAt, withFileAt, withRunAt, withMoveAt, jobLength, scheduleLength};
-use super::choice::select;
+ghost use Rattle.model.specs.Colours.{asColour, byColour};
+ghost use Rattle.model.specs.Layout.{JobInBounds, jobOf, entriesOf, colourAt};
+ghost use Rattle.model.specs.Layout.{withTaskAt, withFileAt, withRunAt, withMoveAt, jobLength, scheduleLength};
+use super::colour::Colour;
+use super::colour::by_colour;
 use rules::Board;
 
 // The counts of an instance, and its board.
@@ -40,13 +41,13 @@ const MOVE_START: usize = START + Board::MAX_TASKS;
 // The last finish of each processor, blue ones first.
 pub const LAST: usize = 2 * (Board::MAX_PROCESSORS as usize);
 
-// The run time of task i on a processor of the colour. Here and everywhere a colour is `true` for blue.
-pub fn run_time(job: &[u64; JOB], i: usize, colour: bool) -> u64
+// The run time of task i on a processor of the colour.
+pub fn run_time(job: &[u64; JOB], i: usize, colour: Colour) -> u64
     requires { ⌜ i < maxTasks ⌝ }
-    ensures { λ r. ⌜ r ≡ cond colour (jobOf (now (job .entry)) .onBlue i) (jobOf (now (job .entry)) .onRed i) ⌝ }
+    ensures { λ r. ⌜ r ≡ byColour colour (jobOf (now (job .entry)) .onBlue i) (jobOf (now (job .entry)) .onRed i) ⌝ }
     ensures { λ r. ⌜ r ≤ max (jobOf (now (job .entry)) .onBlue i) (jobOf (now (job .entry)) .onRed i) ⌝ }
 {
-    select(colour, job[i], job[ON_RED + i])
+    by_colour(colour, job[i], job[ON_RED + i])
 }
 
 // The maker of file k as stored: nothing is known of it yet.
@@ -120,12 +121,16 @@ pub fn move_start(schedule: &[u64; SCHEDULE], k: usize) -> u64
     schedule[MOVE_START + k]
 }
 
-// Whether task i runs on blue.
-pub fn on_blue(shape: Shape, schedule: &[u64; SCHEDULE], i: usize) -> bool
+// The colour that task i runs on: the first processors are blue.
+pub fn colour_of(shape: Shape, schedule: &[u64; SCHEDULE], i: usize) -> Colour
     requires { ⌜ i < maxTasks ⌝ }
-    ensures { λ r. ⌜ r ≡ leb (entriesOf (now (schedule .entry)) .processor i) (shape .board .blue .processors) ⌝ }
+    ensures { λ r. ⌜ asColour r ≡ colourAt shape (entriesOf (now (schedule .entry))) i ⌝ }
 {
-    processor(schedule, i) <= shape.board.blue.processors
+    if processor(schedule, i) <= shape.board.blue.processors {
+        Colour::Blue
+    } else {
+        Colour::Red
+    }
 }
 
 // Stores a number. Lent as a slice, an array shows how long it is.

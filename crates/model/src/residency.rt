@@ -3,17 +3,20 @@ ghost use mathlib.Core.Path.{_≡_};
 ghost use Prim.Native.Nat.{_<_, _≤_, max};
 ghost use Rattle.rules.specs.Model.{finishAt, releaseAt};
 ghost use Rattle.rules.specs.Residency.{covers as rules-covers, settles as rules-settles, holdOf, held, horizon};
-ghost use Rattle.model.specs.Layout.{instanceOf, scheduleOf, colourBy, InBounds, lastTick, mostHeld};
+ghost use Rattle.model.specs.Colours.{asColour};
+ghost use Rattle.model.specs.Layout.{instanceOf, scheduleOf, InBounds, lastTick, mostHeld};
 ghost use Rattle.model.specs.Holds.{TimesOf, TimesWithin, asHold, holdWhen, Within};
 use super::choice::greater;
 use super::choice::value_if;
-use super::crossing::moves;
-use super::crossing::same_colour;
+use super::colour::Colour;
+use super::colour::same_colour;
+use super::crossing::actual_move_time;
 use super::layout;
 use super::layout::Shape;
 
 // What the two runs of a file imply: whether it moves, and its times. `begun` and `made` are its maker's start and finish,
-// `departs` and `arrives` the start and the end of its move; its reader `starts`, and keeps it until `released`.
+// `departs` and `arrives` the start and the end of its move, the end by its actual move time; its reader `starts`, and keeps it
+// until `released`.
 pub struct FileTimes {
     pub moves: bool,
     pub begun: u64,
@@ -65,7 +68,7 @@ pub fn finish<'a>(
     ensures { λ r. ⌜ r ≡ finishAt (instanceOf shape (now (job .entry))) (scheduleOf shape (now (schedule .entry))) i ⌝ }
     ensures { λ r. ⌜ r ≤ lastTick ⌝ }
 {
-    let time = layout::run_time(job, i, layout::on_blue(shape, schedule, i));
+    let time = layout::run_time(job, i, layout::colour_of(shape, schedule, i));
     layout::start(schedule, i) + time
 }
 
@@ -102,13 +105,15 @@ pub fn file_times<'a>(
 {
     let m = layout::maker(shape, job, k) as usize;
     let d = layout::reader(shape, job, k) as usize;
+    let takes = actual_move_time(shape, job, schedule, k);
     let departs = layout::move_start(schedule, k);
+    let arrives = departs + takes;
     FileTimes {
-        moves: moves(shape, job, schedule, k),
+        moves: 0 < takes,
         begun: layout::start(schedule, m),
         made: finish(shape, job, schedule, m),
         departs,
-        arrives: departs + layout::move_time(job, k),
+        arrives,
         starts: layout::start(schedule, d),
         released: release(shape, job, schedule, d),
     }
@@ -147,12 +152,12 @@ pub fn hold_of<'a>(
     job: &'a [u64; layout::JOB],
     schedule: &'a [u64; layout::SCHEDULE],
     k: usize,
-    colour: bool,
+    colour: Colour,
 ) -> Hold
     requires { ⌜ InBounds shape (now job) (now schedule) ⌝ }
     requires { ⌜ k < shape .files ⌝ }
     ensures { λ r. ⌜ asHold r ≡
-        holdOf (instanceOf shape (now (job .entry))) (scheduleOf shape (now (schedule .entry))) (colourBy colour) k ⌝ }
+        holdOf (instanceOf shape (now (job .entry))) (scheduleOf shape (now (schedule .entry))) (asColour colour) k ⌝ }
     ensures { λ r. ⌜ Within lastTick r ⌝ }
 {
     let m = layout::maker(shape, job, k) as usize;
@@ -160,7 +165,7 @@ pub fn hold_of<'a>(
     hold_when(
         0 < layout::processor(schedule, m),
         0 < layout::processor(schedule, d),
-        same_colour(layout::on_blue(shape, schedule, m), colour),
+        same_colour(layout::colour_of(shape, schedule, m), colour),
         file_times(shape, job, schedule, k),
     )
 }
@@ -170,12 +175,12 @@ pub fn held_at<'a>(
     shape: Shape,
     job: &'a [u64; layout::JOB],
     schedule: &'a [u64; layout::SCHEDULE],
-    colour: bool,
+    colour: Colour,
     t: u64,
 ) -> u64
     requires { ⌜ InBounds shape (now job) (now schedule) ⌝ }
     ensures { λ r. ⌜ r ≡
-        held (instanceOf shape (now (job .entry))) (scheduleOf shape (now (schedule .entry))) (colourBy colour) t ⌝ }
+        held (instanceOf shape (now (job .entry))) (scheduleOf shape (now (schedule .entry))) (asColour colour) t ⌝ }
     ensures { λ r. ⌜ r ≤ mostHeld ⌝ }
 {
     let mut sum: u64 = 0;
@@ -193,11 +198,11 @@ pub fn horizon_of<'a>(
     shape: Shape,
     job: &'a [u64; layout::JOB],
     schedule: &'a [u64; layout::SCHEDULE],
-    colour: bool,
+    colour: Colour,
 ) -> u64
     requires { ⌜ InBounds shape (now job) (now schedule) ⌝ }
     ensures { λ r. ⌜ r ≡
-        horizon (instanceOf shape (now (job .entry))) (scheduleOf shape (now (schedule .entry))) (colourBy colour) ⌝ }
+        horizon (instanceOf shape (now (job .entry))) (scheduleOf shape (now (schedule .entry))) (asColour colour) ⌝ }
     ensures { λ r. ⌜ r ≤ lastTick ⌝ }
 {
     let mut most: u64 = 0;

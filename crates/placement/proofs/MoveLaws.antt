@@ -1,14 +1,16 @@
 -- The moves of the files that a task reads, as it is placed.
 use Prim.Native.Nat.{ℕ, _+_, _-_, _≤_, _<_}
-use mathlib.Core.Bool.{Bool, cond}
+use mathlib.Core.Bool.{Bool, true, false, cond}
 use mathlib.Core.List.{List}
 use mathlib.Core.Path.{_≡_, refl, sym, ap, _∙_}
 use native.Mathlib.Omega.{arith}
 use native.Mathlib.Decide.{ℕ-discrete}
+use lib.Dec.{ltb}
 use lib.ListN.{length}
+use borrow.Author.Tests.{lt-ltb}
 use Rattle.rules.specs.Count.{listBelow}
 use Rattle.rules.specs.Limits.{maxTasks, maxFiles}
-use Rattle.rules.specs.Model.{Instance, Schedule, Colour, runAt, moveAt, fileAt, fileCount}
+use Rattle.rules.specs.Model.{Instance, Schedule, Colour, runAt, moveAt, fileAt, fileCount, moveTimeAt}
 use Rattle.rules.specs.Scheduling.{crossing, moveWith}
 use Rattle.rules.proofs.CountLaws.{list-cong}
 use Rattle.model.specs.declared.layout.Shape.{Shape}
@@ -23,9 +25,16 @@ module _ {b : Shape} {J : Job} (f : JobBounds b J) (L : Entries) {k : ℕ} (h : 
   abbrev P : Schedule
   P = scheduleFrom b L
 
-  pub move-from : (i : ℕ) (c : Colour) (start : ℕ) {y : Bool} {t d u : ℕ} → y ≡ crossing I P i c k → t ≡ J .moveTime k → d ≡ start - t → u ≡ L .moveStart k
-      → cond y d u ≡ moveWith I P i c start k
-  move-from i c start p q e r = rw (p, e, q, r, move-time-at b J k h, move-at b L k h)
+  -- a file that crosses or not, whose move then takes so long
+  chosen-move : (y : Bool) (x start d u t : ℕ) → 1 ≤ x → t ≡ cond y x 0 → d ≡ start - t → cond (ltb 0 t) d u ≡ cond y (start - x) u
+  chosen-move true x start d u t l e g = rw (g, e, lt-ltb 0 x (omega arith))
+  chosen-move false x start d u t l e g = rw (g, e)
+
+  pub move-from : (i : ℕ) (c : Colour) (start : ℕ) {t d u : ℕ} → t ≡ cond (crossing I P i c k) (moveTimeAt I k) 0 → d ≡ start - t → u ≡ L .moveStart k
+      → cond (ltb 0 t) d u ≡ moveWith I P i c start k
+  move-from i c start {t} {d} {u} p e r =
+      chosen-move (crossing I P i c k) (moveTimeAt I k) start d u t (omega (arith, f .moveTime k h .least, move-time-at b J k h)) p e
+      ∙ ap (λ v. cond (crossing I P i c k) (start - moveTimeAt I k) v) (r ∙ sym (move-at b L k h))
 
 -- ---- the loop over the files
 

@@ -13,7 +13,10 @@ use Rattle.rules.specs.Model.{Instance, Run, unplaced, processorCount, fileCoun
 use Rattle.rules.specs.Scheduling.{Partial, slotOf, chosenProcessor, moveWith, assign, empty, finishOn}
 use Rattle.rules.proofs.CountLaws.{list-cong, list-set, list-same, getD-same}
 use Rattle.model.specs.declared.layout.Shape.{Shape}
-use Rattle.model.specs.Layout.{Job, entriesOf, runFrom, instanceFrom, scheduleFrom, scheduleOf, partialFrom, colourBy, countIn, JobBounds, scheduleLength}
+use Rattle.model.specs.declared.colour.Colour.{Colour}
+use Rattle.model.specs.declared.colour.Colour.the-variants.{Blue, Red}
+use Rattle.model.specs.Colours.{asColour, byColour}
+use Rattle.model.specs.Layout.{Job, entriesOf, runFrom, instanceFrom, scheduleFrom, scheduleOf, partialFrom, countIn, JobBounds, scheduleLength}
 use Rattle.model.specs.Layout.{lastLength, withRunAt}
 use Rattle.model.proofs.LayoutLaws.{file-count, task-count, finish-on-at, processors-of}
 use Rattle.model.proofs.WriteLaws.{run-here, run-other, run-moves}
@@ -27,7 +30,7 @@ parts : {r r′ : List Run} {m m′ l l′ : List ℕ} → r ≡ r′ → m ≡ 
     (record { schedule = record { runs = r′; moves = m′ }; lastFinish = l′ })
 parts p q e = rw (p, q, e)
 
-module _ {b : Shape} {J : Job} (f : JobBounds b J) (xs last : List ℕ) (x : Bool) {i : ℕ} (inside : i < b .tasks) (s : ℕ) where
+module _ {b : Shape} {J : Job} (f : JobBounds b J) (xs last : List ℕ) (x : Colour) {i : ℕ} (inside : i < b .tasks) (s : ℕ) where
   abbrev I : Instance
   I = instanceFrom b J
 
@@ -37,17 +40,17 @@ module _ {b : Shape} {J : Job} (f : JobBounds b J) (xs last : List ℕ) (x : Boo
   module _ (ys : List ℕ) (size : length ys ≡ scheduleLength)
       (same : (j : ℕ) → j < maxTasks → runFrom (entriesOf ys) j ≡ runFrom (entriesOf xs) j) (p : ℕ) where
     module _ {slot time : ℕ} (known : length last ≡ lastLength)
-        (moves : listBelow (b .files) (entriesOf ys .moveStart) ≡ listBelow (fileCount I) (moveWith I (scheduleOf b xs) i (colourBy x) s))
-        (chosen : p ≡ chosenProcessor I Q (colourBy x) s) (exists : p < countIn b x)
-        (here : slot ≡ slotIn b x p) (takes : time ≡ cond x (J .onBlue i) (J .onRed i)) where
+        (moves : listBelow (b .files) (entriesOf ys .moveStart) ≡ listBelow (fileCount I) (moveWith I (scheduleOf b xs) i (asColour x) s))
+        (chosen : p ≡ chosenProcessor I Q (asColour x) s) (exists : p < countIn b x)
+        (here : slot ≡ slotIn b x p) (takes : time ≡ byColour x (J .onBlue i) (J .onRed i)) where
       l : i < maxTasks
       l = omega (arith, f .tasks)
 
       -- the place of the processor chosen
-      at : slotOf I (colourBy x) (chosenProcessor I Q (colourBy x) s) ≡ slot
+      at : slotOf I (asColour x) (chosenProcessor I Q (asColour x) s) ≡ slot
       at = slot-at b J x _ ∙ rw (here, chosen)
 
-      finish : s + time ≡ finishOn I i (colourBy x) s
+      finish : s + time ≡ finishOn I i (asColour x) s
       finish = finish-on-at b J inside x s takes
 
       runs-placed : listBelow (b .tasks) (runFrom (entriesOf (withRunAt ys i (slot + 1) s)))
@@ -65,7 +68,7 @@ module _ {b : Shape} {J : Job} (f : JobBounds b J) (xs last : List ℕ) (x : Boo
           (getD-set-same last slot (s + time) 0 (omega (arith, f .processors .blue .most, f .processors .red .most)))
           (λ q h d. getD-set-other last slot q (s + time) 0 d)
 
-      pub placed : {zs : List ℕ} → zs ≡ withRunAt ys i (slot + 1) s → partialFrom b (entriesOf zs) (set last slot (s + time)) ≡ assign I Q i (colourBy x) s
+      pub placed : {zs : List ℕ} → zs ≡ withRunAt ys i (slot + 1) s → partialFrom b (entriesOf zs) (set last slot (s + time)) ≡ assign I Q i (asColour x) s
       unfolding assign scheduleFrom
       placed e = rw (e, at, ← finish) (parts runs-placed (list-cong (b .files) _ _ (λ k h. run-moves ys l (slot + 1) s k) ∙ moves) last-placed)
 
@@ -76,7 +79,7 @@ unfolding empty scheduleFrom
 empty-from b J m n =
     let at : (j : ℕ) → _≡_ {A = ℕ} (getD (replicate m 0) j 0) 0 = λ j. getD-same m j 0 in
     let count : b .board .blue .processors + b .board .red .processors ≡ processorCount (instanceFrom b J) = omega
-    (arith, processors-of b J true, processors-of b J false) in
+    (arith, processors-of b J Blue, processors-of b J Red) in
     parts
     (list-same (b .tasks) (runFrom (entriesOf (replicate m 0))) unplaced (λ j h. rw (at j, at (maxTasks + j))) ∙ ap (λ k. replicate k unplaced)
     (sym (task-count b J)))

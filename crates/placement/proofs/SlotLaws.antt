@@ -7,43 +7,47 @@ use native.Mathlib.Omega.{arith}
 use lib.Dec.{leb, eqb}
 use Rattle.rules.specs.Count.{maxWhere}
 use Rattle.rules.specs.Limits.{processorCounts}
-use Rattle.rules.specs.Model.{Instance, Colour, sideOf}
+use Rattle.rules.specs.Model as Rules
+use Rattle.rules.specs.Model.{Instance, sideOf}
 use Rattle.rules.specs.Scheduling.{Partial, slotOf, lastFinishOn, freeBy, latestFree, chosenProcessor, processorStart}
 use Rattle.rules.proofs.CountLaws.{max-cong, first-passed}
 use Rattle.rules.proofs.StartLaws.{free-processor, processorLaw}
 use Rattle.model.specs.declared.layout.Shape.{Shape}
-use Rattle.model.specs.Layout.{Job, Entries, instanceFrom, partialFrom, colourBy, countIn, Processors, lastLength}
+use Rattle.model.specs.declared.colour.Colour.{Colour}
+use Rattle.model.specs.declared.colour.Colour.the-variants.{Blue, Red}
+use Rattle.model.specs.Colours.{asColour}
+use Rattle.model.specs.Layout.{Job, Entries, instanceFrom, partialFrom, countIn, Processors, lastLength}
 use Rattle.model.proofs.LayoutLaws.{processors-of, last-finish-at}
 use Rattle.model.proofs.StepLaws.{max-turn}
 use Rattle.placement.specs.Slots.{slotIn, lastIn}
 
-pub slot-exists : (b : Shape) (x : Bool) (p : ℕ) → p < countIn b x → slotIn b x p < b .board .blue .processors + b .board .red .processors
-slot-exists b true p h = omega arith
-slot-exists b false p h = omega arith
+pub slot-exists : (b : Shape) (x : Colour) (p : ℕ) → p < countIn b x → slotIn b x p < b .board .blue .processors + b .board .red .processors
+slot-exists b Blue p h = omega arith
+slot-exists b Red p h = omega arith
 
-pub slot-at : (b : Shape) (J : Job) (x : Bool) (p : ℕ) → slotOf (instanceFrom b J) (colourBy x) p ≡ slotIn b x p
+pub slot-at : (b : Shape) (J : Job) (x : Colour) (p : ℕ) → slotOf (instanceFrom b J) (asColour x) p ≡ slotIn b x p
 unfolding instanceFrom
-slot-at b J true p = refl
-slot-at b J false p = refl
+slot-at b J Blue p = refl
+slot-at b J Red p = refl
 
-pub count-most : {b : Shape} → Processors b → (x : Bool) → countIn b x ≤ processorCounts .most
-count-most f true = f .blue .most
-count-most f false = f .red .most
+pub count-most : {b : Shape} → Processors b → (x : Colour) → countIn b x ≤ processorCounts .most
+count-most f Blue = f .blue .most
+count-most f Red = f .red .most
 
 -- a colour has a processor
-count-some : {b : Shape} → Processors b → (x : Bool) → 1 ≤ countIn b x
-count-some f true = f .blue .least
-count-some f false = f .red .least
+count-some : {b : Shape} → Processors b → (x : Colour) → 1 ≤ countIn b x
+count-some f Blue = f .blue .least
+count-some f Red = f .red .least
 
 -- the slot, by the two cases of a colour
 module _ {b : Shape} (f : Processors b) (p : ℕ) where
-  pub slot-blue : {x : Bool} → x ≡ true → p < countIn b x → (p ≡ slotIn b x p) × (p < lastLength)
+  pub slot-blue : {x : Colour} → x ≡ Blue → p < countIn b x → (p ≡ slotIn b x p) × (p < lastLength)
   slot-blue {x} e h = rw e (refl, omega (arith, count-most f x, f .blue .most))
 
-  pub slot-red : {x : Bool} → x ≡ false → p < countIn b x → (b .board .blue .processors + p ≡ slotIn b x p) × (b .board .blue .processors + p < lastLength)
+  pub slot-red : {x : Colour} → x ≡ Red → p < countIn b x → (b .board .blue .processors + p ≡ slotIn b x p) × (b .board .blue .processors + p < lastLength)
   slot-red {x} e h = rw e (refl, omega (arith, count-most f x, f .blue .most))
 
-module _ (b : Shape) (xs : List ℕ) (x : Bool) (s : ℕ) where
+module _ (b : Shape) (xs : List ℕ) (x : Colour) (s : ℕ) where
   -- whether the colour's processor p is free by the start
   abbrev pub freeIn : ℕ → Bool
   freeIn p = leb (lastIn b xs x p) s
@@ -73,8 +77,8 @@ module _ (b : Shape) (xs : List ℕ) (x : Bool) (s : ℕ) where
     abbrev Q : Partial
     Q = partialFrom b L xs
 
-    abbrev c : Colour
-    c = colourBy x
+    abbrev c : Rules.Colour
+    c = asColour x
 
     pub last-at : (p : ℕ) → p < countIn b x → lastFinishOn I Q c p ≡ lastIn b xs x p
     last-at p h = rw (slot-at b J x p) (last-finish-at b L xs (slotIn b x p) (slot-exists b x p h))

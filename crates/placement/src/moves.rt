@@ -6,9 +6,11 @@ ghost use Rattle.rules.specs.Count.{listBelow};
 ghost use Rattle.rules.specs.Limits.{maxTasks};
 ghost use Rattle.rules.specs.Model.{fileCount};
 ghost use Rattle.rules.specs.Scheduling.{moveWith};
-ghost use Rattle.model.specs.Layout.{entriesOf, runFrom, scheduleLength, instanceOf, scheduleOf, colourBy, JobInBounds};
+ghost use Rattle.model.specs.Colours.{asColour};
+ghost use Rattle.model.specs.Layout.{entriesOf, runFrom, scheduleLength, instanceOf, scheduleOf, JobInBounds};
 use model::choice::select;
-use model::crossing::crossing_file;
+use model::colour::Colour;
+use model::crossing::crossing_time;
 use model::layout;
 use model::layout::Shape;
 
@@ -25,18 +27,18 @@ fn move_with<'a>(
     job: &'a [u64; layout::JOB],
     schedule: &'a [u64; layout::SCHEDULE],
     i: usize,
-    colour: bool,
+    colour: Colour,
     start: u64,
     k: usize,
 ) -> u64
     requires { ⌜ JobInBounds shape (now job) ⌝ }
     requires { ⌜ k < shape .files ⌝ }
-    ensures { λ r. ⌜ r ≡ moveWith (instanceOf shape (now (job .entry))) (scheduleOf shape (now (schedule .entry))) i (colourBy colour) start k ⌝ }
+    ensures { λ r. ⌜ r ≡ moveWith (instanceOf shape (now (job .entry))) (scheduleOf shape (now (schedule .entry))) i (asColour colour) start k ⌝ }
 {
-    let moves = crossing_file(shape, job, schedule, k, i as u64, colour);
-    let departs = saturating_sub(start, layout::move_time(job, k));
+    let takes = crossing_time(shape, job, schedule, k, i as u64, colour);
+    let departs = saturating_sub(start, takes);
     let before = layout::move_start(schedule, k);
-    select(moves, departs, before)
+    select(0 < takes, departs, before)
 }
 
 // The move starts of all files, with task i placed on the colour at the start. The runs stay.
@@ -45,7 +47,7 @@ pub fn set_moves(
     job: &[u64; layout::JOB],
     schedule: &mut [u64; layout::SCHEDULE],
     i: usize,
-    colour: bool,
+    colour: Colour,
     start: u64,
 )
     requires { ⌜ JobInBounds shape (now job) ⌝ }
@@ -54,7 +56,7 @@ pub fn set_moves(
     ensures { λ r. ⌜ ((j : ℕ) → j < maxTasks → runFrom (entriesOf (now (schedule .exit))) j ≡ runFrom (entriesOf (now (schedule .entry))) j) ⌝ }
     ensures { λ r. ⌜ listBelow (shape .files) (entriesOf (now (schedule .exit)) .moveStart) ≡
         listBelow (fileCount (instanceOf shape (now (job .entry))))
-        (moveWith (instanceOf shape (now (job .entry))) (scheduleOf shape (now (schedule .entry))) i (colourBy colour) start) ⌝ }
+        (moveWith (instanceOf shape (now (job .entry))) (scheduleOf shape (now (schedule .entry))) i (asColour colour) start) ⌝ }
 {
     let mut k: usize = 0;
     while k < shape.files {

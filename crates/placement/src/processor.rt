@@ -5,19 +5,21 @@ ghost use Prim.Native.Nat.{_<_};
 ghost use lib.Dec.{leb, eqb};
 ghost use Rattle.rules.specs.Count.{maxWhere};
 ghost use Rattle.rules.specs.Scheduling.{chosenProcessor};
-ghost use Rattle.model.specs.Layout.{Job, Entries, lastLength, instanceFrom, partialFrom, colourBy, countIn, Processors};
+ghost use Rattle.model.specs.Colours.{asColour};
+ghost use Rattle.model.specs.Layout.{Job, Entries, lastLength, instanceFrom, partialFrom, countIn, Processors};
 ghost use Rattle.placement.specs.Slots.{slotIn, lastIn};
 use model::choice::greater;
-use model::choice::select;
 use model::choice::value_if;
+use model::colour::Colour;
+use model::colour::by_colour;
 use model::layout;
 use model::layout::Shape;
 
 // The processors of the colour.
-fn count_in(shape: Shape, colour: bool) -> usize
+fn count_in(shape: Shape, colour: Colour) -> usize
     ensures { λ r. ⌜ r ≡ countIn shape colour ⌝ }
 {
-    select(
+    by_colour(
         colour,
         shape.board.blue.processors,
         shape.board.red.processors,
@@ -25,20 +27,20 @@ fn count_in(shape: Shape, colour: bool) -> usize
 }
 
 // The place among the last finishes of the colour's processor p, counted from 0 within the colour.
-pub fn slot_in(shape: Shape, colour: bool, p: usize) -> usize
+pub fn slot_in(shape: Shape, colour: Colour, p: usize) -> usize
     requires { ⌜ Processors shape ⌝ }
     requires { ⌜ p < countIn shape colour ⌝ }
     ensures { λ r. ⌜ r ≡ slotIn shape colour p ⌝ }
     ensures { λ r. ⌜ r < lastLength ⌝ }
 {
-    if colour {
-        return p;
+    match colour {
+        Colour::Blue => p,
+        Colour::Red => shape.board.blue.processors as usize + p,
     }
-    shape.board.blue.processors as usize + p
 }
 
 // The finish of the last run placed on that processor.
-fn last_in(shape: Shape, last: &[u64; layout::LAST], colour: bool, p: usize) -> u64
+fn last_in(shape: Shape, last: &[u64; layout::LAST], colour: Colour, p: usize) -> u64
     requires { ⌜ Processors shape ⌝ }
     requires { ⌜ p < countIn shape colour ⌝ }
     ensures { λ r. ⌜ r ≡ lastIn shape (now (last .entry)) colour p ⌝ }
@@ -48,7 +50,7 @@ fn last_in(shape: Shape, last: &[u64; layout::LAST], colour: bool, p: usize) -> 
 }
 
 // The latest last finish of the colour's processors that are free by the start; 0 if there are none.
-fn latest_in(shape: Shape, last: &[u64; layout::LAST], colour: bool, start: u64) -> u64
+fn latest_in(shape: Shape, last: &[u64; layout::LAST], colour: Colour, start: u64) -> u64
     requires { ⌜ Processors shape ⌝ }
     ensures { λ r. ⌜ r ≡
         maxWhere (countIn shape colour) (λ p. leb (lastIn shape (now (last .entry)) colour p) start) (lastIn shape (now (last .entry)) colour) ⌝ }
@@ -75,10 +77,10 @@ fn is_latest_free(finish: u64, start: u64, latest: u64) -> bool
 }
 
 // The processor chosen, counted from 0 within the colour; their number if none is free by the start.
-pub fn chosen_processor(shape: Shape, last: &[u64; layout::LAST], colour: bool, start: u64) -> u64
+pub fn chosen_processor(shape: Shape, last: &[u64; layout::LAST], colour: Colour, start: u64) -> u64
     requires { ⌜ Processors shape ⌝ }
     ensures { λ r. ⌜ ((J : Job) (L : Entries) → r ≡
-        chosenProcessor (instanceFrom shape J) (partialFrom shape L (now (last .entry))) (colourBy colour) start) ⌝ }
+        chosenProcessor (instanceFrom shape J) (partialFrom shape L (now (last .entry))) (asColour colour) start) ⌝ }
 {
     let n = count_in(shape, colour);
     let latest = latest_in(shape, last, colour, start);

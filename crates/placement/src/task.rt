@@ -3,10 +3,12 @@ ghost use mathlib.Core.Path.{_≡_};
 ghost use Prim.Native.Nat.{_<_, _≤_};
 ghost use lib.ListN.{length};
 ghost use Rattle.rules.specs.Scheduling.{processorStart, assign};
-ghost use Rattle.model.specs.Layout.{scheduleLength, lastLength, instanceOf, partialOf, colourBy, JobInBounds, lastStart};
+ghost use Rattle.model.specs.Colours.{asColour};
+ghost use Rattle.model.specs.Layout.{scheduleLength, lastLength, instanceOf, partialOf, JobInBounds, lastStart};
 use super::moves::set_moves;
 use super::processor::chosen_processor;
 use super::processor::slot_in;
+use model::colour::Colour;
 use model::layout;
 use model::layout::Shape;
 
@@ -17,16 +19,16 @@ pub fn place(
     schedule: &mut [u64; layout::SCHEDULE],
     last: &mut [u64; layout::LAST],
     i: usize,
-    colour: bool,
+    colour: Colour,
     start: u64,
 )
     requires { ⌜ JobInBounds shape (now job) ⌝ }
     requires { ⌜ (length (now schedule) ≡ scheduleLength) × (length (now last) ≡ lastLength) ⌝ }
     requires { ⌜ (i < shape .tasks) × (start ≤ lastStart) ⌝ }
-    requires { ⌜ processorStart (instanceOf shape (now job)) (partialOf shape (now schedule) (now last)) (colourBy colour) ≤ start ⌝ }
+    requires { ⌜ processorStart (instanceOf shape (now job)) (partialOf shape (now schedule) (now last)) (asColour colour) ≤ start ⌝ }
     ensures { λ r. ⌜ (length (now (schedule .exit)) ≡ scheduleLength) × (length (now (last .exit)) ≡ lastLength) ⌝ }
     ensures { λ r. ⌜ partialOf shape (now (schedule .exit)) (now (last .exit)) ≡
-        assign (instanceOf shape (now (job .entry))) (partialOf shape (now (schedule .entry)) (now (last .entry))) i (colourBy colour) start ⌝ }
+        assign (instanceOf shape (now (job .entry))) (partialOf shape (now (schedule .entry)) (now (last .entry))) i (asColour colour) start ⌝ }
 {
     set_moves(shape, job, schedule, i, colour, start);
     let p = chosen_processor(shape, last, colour, start) as usize;

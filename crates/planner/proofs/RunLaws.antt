@@ -1,7 +1,6 @@
 -- The planner's state between two rounds, with `placed` tasks placed: the partial schedule is sound, and the rule's outcome is what
 -- the rounds that are left make of it.
 use Prim.Native.Nat.{ℕ, suc, _+_, _*_, _-_, _≤_, _<_}
-use mathlib.Core.Bool.{Bool}
 use mathlib.Core.List.{List}
 use mathlib.Core.Path.{_≡_, sym, ap, _∙_}
 use native.Mathlib.Omega.{arith}
@@ -17,7 +16,9 @@ use Rattle.model.specs.declared.layout.Shape.{Shape}
 use Rattle.selection.specs.declared.round.Round.{Round}
 use Rattle.selection.specs.declared.trial.Choice.the-variants.{Nothing, Choose}
 use Rattle.selection.specs.Choices.{asChoice, asRound}
-use Rattle.model.specs.Layout.{colourBy, Job, Entries, instanceFrom, scheduleFrom, partialFrom, Bounds, LastBounds}
+use Rattle.model.specs.declared.colour.Colour.{Colour}
+use Rattle.model.specs.Colours.{asColour}
+use Rattle.model.specs.Layout.{Job, Entries, instanceFrom, scheduleFrom, partialFrom, Bounds, LastBounds}
 use Rattle.model.proofs.LayoutLaws.{task-count, file-count, run-at, move-at, last-finish-at, job-bounds}
 
 pub record Planning (R : Planner) (b : Shape) (J : Job) (L : Entries) (last : List ℕ) (placed trials : ℕ) : Type 0 where
@@ -87,22 +88,22 @@ module _ (R : Planner) (b : Shape) (J : Job) (W : WellFormed (instanceFrom b J))
             rw (one-more, trials-are) (rounds-stuck R I left Q trials e ∙ ap (λ k. stuck k (trials + roundOf R I Q .trials)) count) in
             sym (p .rest ∙ halt)
 
-        module _ {i : ℕ} {colour : Bool} {s : ℕ} (chosen : x .choice ≡ Choose i colour s) where
-          chosen-is : roundOf R I Q .choice ≡ choose i (colourBy colour) s
+        module _ {i : ℕ} {colour : Colour} {s : ℕ} (chosen : x .choice ≡ Choose i colour s) where
+          chosen-is : roundOf R I Q .choice ≡ choose i (asColour colour) s
           chosen-is = sym choice-is ∙ rw chosen
 
-          trial : Trial I Q i (colourBy colour) s
-          trial = round-trial R I Q i (colourBy colour) s chosen-is
+          trial : Trial I Q i (asColour colour) s
+          trial = round-trial R I Q i (asColour colour) s chosen-is
 
-          pub planning-processor : processorStart I Q (colourBy colour) ≤ s
-          planning-processor = start-processor I W placed Q (p .sound) i (colourBy colour) s trial
+          pub planning-processor : processorStart I Q (asColour colour) ≤ s
+          planning-processor = start-processor I W placed Q (p .sound) i (asColour colour) s trial
 
-          pub planning-next : (L′ : Entries) (last′ : List ℕ) → partialFrom b L′ last′ ≡ assign I Q i (colourBy colour) s → x .trials ≤ 2 * b .tasks
+          pub planning-next : (L′ : Entries) (last′ : List ℕ) → partialFrom b L′ last′ ≡ assign I Q i (asColour colour) s → x .trials ≤ 2 * b .tasks
               → Planning R b J L′ last′ (placed + 1) (trials + x .trials)
           planning-next L′ last′ q t = record {
             most = omega arith;
-            sound = rw (add-one placed, q) (assign-sound I W placed Q (p .sound) i (colourBy colour) s trial);
-            rest = p .rest ∙ rw (one-more, q, trials-are) (rounds-place R I (b .tasks - (placed + 1)) Q trials i (colourBy colour) s chosen-is);
+            sound = rw (add-one placed, q) (assign-sound I W placed Q (p .sound) i (asColour colour) s trial);
+            rest = p .rest ∙ rw (one-more, q, trials-are) (rounds-place R I (b .tasks - (placed + 1)) Q trials i (asColour colour) s chosen-is);
             counted = omega (arith, p .counted, job-bounds b J W .tasks);
           }
 

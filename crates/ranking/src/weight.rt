@@ -8,6 +8,7 @@ ghost use Rattle.model.specs.Layout.{instanceOf};
 ghost use Rattle.ranking.specs.Weights.{heaviestReader, WeightsFrom};
 use model::choice::greater;
 use model::choice::value_if;
+use model::colour::Colour;
 use model::layout;
 use model::layout::Shape;
 use rules::Board;
@@ -44,7 +45,7 @@ pub fn weights(shape: Shape, job: &[u64; layout::JOB]) -> [u64; Board::MAX_TASKS
     let mut i = shape.tasks;
     while 0 < i {
         i -= 1;
-        let time = layout::run_time(job, i, true) + layout::run_time(job, i, false);
+        let time = layout::run_time(job, i, Colour::Blue) + layout::run_time(job, i, Colour::Red);
         let behind = heaviest_reader(shape, job, &all, i);
         all[i] = time + behind;
     }

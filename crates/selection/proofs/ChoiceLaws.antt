@@ -1,12 +1,13 @@
 -- The trials of one task: the cases of the small functions on choices.
 use Prim.Native.Nat.{ℕ, _≤_, _<_}
-use mathlib.Core.Bool.{Bool}
 use mathlib.Core.Path.{_≡_, _∙_}
 use borrow.Author.Tests.{le-leb, lt-leb}
 use Rattle.rules.specs.Model.{blue, red, Instance}
 use Rattle.rules.specs.Scheduling.{Partial, nothing, choose, earliestStart, finishOn, tried, earlier, bothColours}
 use Rattle.model.specs.declared.layout.Shape.{Shape}
-use Rattle.model.specs.Layout.{colourBy, lastStart}
+use Rattle.model.specs.declared.colour.Colour.{Colour}
+use Rattle.model.specs.Colours.{asColour}
+use Rattle.model.specs.Layout.{lastStart}
 use Rattle.starts.specs.declared.memory.Free.{Free}
 use Rattle.starts.specs.declared.memory.Free.the-variants.{Nowhere, From}
 use Rattle.starts.specs.FreeMemory.{asOption}
@@ -14,29 +15,29 @@ use Rattle.selection.specs.declared.trial.Choice.{Choice}
 use Rattle.selection.specs.declared.trial.Choice.the-variants.{Nothing, Choose}
 use Rattle.selection.specs.Choices.{asChoice, ChoiceBounds}
 
-module _ (i : ℕ) (x : Bool) (a : Free) where
-  pub tried-nowhere : a ≡ Nowhere → nothing ≡ tried i (colourBy x) (asOption a)
+module _ (i : ℕ) (x : Colour) (a : Free) where
+  pub tried-nowhere : a ≡ Nowhere → nothing ≡ tried i (asColour x) (asOption a)
   tried-nowhere e = rw e
 
-  pub tried-from : {s : ℕ} → a ≡ From s → choose i (colourBy x) s ≡ tried i (colourBy x) (asOption a)
+  pub tried-from : {s : ℕ} → a ≡ From s → choose i (asColour x) s ≡ tried i (asColour x) (asOption a)
   tried-from e = rw e
 
-pub chosen-bounds : (b : Shape) (a : Choice) {i s : ℕ} {x : Bool} → a ≡ Choose i x s → ChoiceBounds b a → (i < b .tasks) × (s ≤ lastStart)
+pub chosen-bounds : (b : Shape) (a : Choice) {i s : ℕ} {x : Colour} → a ≡ Choose i x s → ChoiceBounds b a → (i < b .tasks) × (s ≤ lastStart)
 chosen-bounds b a e h = rw e at h
 
 module _ (I : Instance) (a b : Choice) where
   pub earlier-none : a ≡ Nothing → asChoice b ≡ earlier I (asChoice a) (asChoice b)
   earlier-none e = rw e
 
-  module _ {i s : ℕ} {x : Bool} (e : a ≡ Choose i x s) where
-    pub earlier-only : b ≡ Nothing → choose i (colourBy x) s ≡ earlier I (asChoice a) (asChoice b)
+  module _ {i s : ℕ} {x : Colour} (e : a ≡ Choose i x s) where
+    pub earlier-only : b ≡ Nothing → choose i (asColour x) s ≡ earlier I (asChoice a) (asChoice b)
     earlier-only g = rw (e, g)
 
-    module _ {j t : ℕ} {y : Bool} (g : b ≡ Choose j y t) {m n : ℕ} (p : m ≡ finishOn I i (colourBy x) s) (q : n ≡ finishOn I j (colourBy y) t) where
-      pub earlier-first : m ≤ n → choose i (colourBy x) s ≡ earlier I (asChoice a) (asChoice b)
+    module _ {j t : ℕ} {y : Colour} (g : b ≡ Choose j y t) {m n : ℕ} (p : m ≡ finishOn I i (asColour x) s) (q : n ≡ finishOn I j (asColour y) t) where
+      pub earlier-first : m ≤ n → choose i (asColour x) s ≡ earlier I (asChoice a) (asChoice b)
       earlier-first l = rw (e, g, ← p, ← q, le-leb m n l)
 
-      pub earlier-second : n < m → choose j (colourBy y) t ≡ earlier I (asChoice a) (asChoice b)
+      pub earlier-second : n < m → choose j (asColour y) t ≡ earlier I (asChoice a) (asChoice b)
       earlier-second l = rw (e, g, ← p, ← q, lt-leb m n l)
 
 pub both-at : (I : Instance) (Q : Partial) (i : ℕ) (f g : Free) (a b r : Choice)

@@ -5,14 +5,15 @@ use mathlib.Core.List.{List}
 use lib.ListN.{getD}
 use Rattle.rules.specs.Scheduling.{Choice as Chosen, nothing, choose, Round as Made}
 use Rattle.model.specs.declared.layout.Shape.{Shape}
-use Rattle.model.specs.Layout.{colourBy, lastStart}
+use Rattle.model.specs.Colours.{asColour}
+use Rattle.model.specs.Layout.{lastStart}
 use Rattle.selection.specs.declared.trial.Choice.{Choice}
 use Rattle.selection.specs.declared.trial.Choice.the-variants.{Nothing, Choose}
 use Rattle.selection.specs.declared.round.Round.{Round}
 
 abbrev pub asChoice : Choice → Chosen
 asChoice Nothing = nothing
-asChoice (Choose i colour s) = choose i (colourBy colour) s
+asChoice (Choose i colour s) = choose i (asColour colour) s
 
 abbrev pub asRound : Round → Made
 asRound r = record { choice = asChoice (r .choice); trials = r .trials }

@@ -3,9 +3,11 @@ ghost use mathlib.Core.Path.{_≡_};
 ghost use Prim.Native.Nat.{_<_, _≤_};
 ghost use Rattle.rules.specs.Scheduling.{finishOn, tried as rules-tried, earlier as rules-earlier, bothColours};
 ghost use Rattle.model.specs.declared.layout.Shape.{Shape};
-ghost use Rattle.model.specs.Layout.{instanceOf, partialOf, colourBy, JobInBounds, InBounds, LastBounds, lastStart, latestFinish};
+ghost use Rattle.model.specs.Colours.{asColour};
+ghost use Rattle.model.specs.Layout.{instanceOf, partialOf, JobInBounds, InBounds, LastBounds, lastStart, latestFinish};
 ghost use Rattle.starts.specs.FreeMemory.{asOption, tickOf};
 ghost use Rattle.selection.specs.Choices.{asChoice, ChoiceBounds};
+use model::colour::Colour;
 use model::layout;
 use model::layout::Shape;
 use starts::memory::Free;
@@ -14,13 +16,17 @@ use starts::start::earliest_start;
 // What is to be placed: a task on a colour at a start, or nothing that fits.
 pub enum Choice {
     Nothing,
-    Choose { task: u64, colour: bool, start: u64 },
+    Choose {
+        task: u64,
+        colour: Colour,
+        start: u64,
+    },
 }
 
 // A task on a colour, if the colour fits.
-fn tried(task: u64, colour: bool, free: Free) -> Choice
+fn tried(task: u64, colour: Colour, free: Free) -> Choice
     requires { ⌜ tickOf free ≤ lastStart ⌝ }
-    ensures { λ r. ⌜ asChoice r ≡ rules-tried task (colourBy colour) (asOption free) ⌝ }
+    ensures { λ r. ⌜ asChoice r ≡ rules-tried task (asColour colour) (asOption free) ⌝ }
     ensures { λ r. ⌜ ((shape : Shape) → task < shape .tasks → ChoiceBounds shape r) ⌝ }
 {
     let Free::From(start) = free else {
@@ -34,10 +40,16 @@ fn tried(task: u64, colour: bool, free: Free) -> Choice
 }
 
 // The finish of a task that starts so on a colour.
-pub fn finish_on(shape: Shape, job: &[u64; layout::JOB], task: u64, colour: bool, start: u64) -> u64
+pub fn finish_on(
+    shape: Shape,
+    job: &[u64; layout::JOB],
+    task: u64,
+    colour: Colour,
+    start: u64,
+) -> u64
     requires { ⌜ JobInBounds shape (now job) ⌝ }
     requires { ⌜ (task < shape .tasks) × (start ≤ lastStart) ⌝ }
-    ensures { λ r. ⌜ r ≡ finishOn (instanceOf shape (now (job .entry))) task (colourBy colour) start ⌝ }
+    ensures { λ r. ⌜ r ≡ finishOn (instanceOf shape (now (job .entry))) task (asColour colour) start ⌝ }
     ensures { λ r. ⌜ r ≤ latestFinish ⌝ }
 {
     start + layout::run_time(job, task as usize, colour)
@@ -87,9 +99,9 @@ pub fn both_colours<'a>(
     ensures { λ r. ⌜ asChoice r ≡ bothColours (instanceOf shape (now (job .entry))) (partialOf shape (now (schedule .entry)) (now (last .entry))) task ⌝ }
     ensures { λ r. ⌜ ChoiceBounds shape r ⌝ }
 {
-    let on_blue = earliest_start(shape, job, schedule, last, task, true);
-    let on_red = earliest_start(shape, job, schedule, last, task, false);
-    let first = tried(task, true, on_blue);
-    let second = tried(task, false, on_red);
+    let on_blue = earliest_start(shape, job, schedule, last, task, Colour::Blue);
+    let on_red = earliest_start(shape, job, schedule, last, task, Colour::Red);
+    let first = tried(task, Colour::Blue, on_blue);
+    let second = tried(task, Colour::Red, on_red);
     earlier(shape, job, first, second)
 }

@@ -12,7 +12,10 @@ use Rattle.rules.specs.Model.{Instance, Schedule}
 use Rattle.rules.specs.Scheduling.{Partial, processorStart, freeFrom, latest, delayed, earliestStart}
 use Rattle.rules.proofs.CountLaws.{min-cong}
 use Rattle.model.specs.declared.layout.Shape.{Shape}
-use Rattle.model.specs.Layout.{Job, Entries, instanceFrom, scheduleFrom, colourBy, partialFrom, countIn, Processors}
+use Rattle.model.specs.declared.colour.Colour.{Colour}
+use Rattle.model.specs.declared.colour.Colour.the-variants.{Blue, Red}
+use Rattle.model.specs.Colours.{asColour, byColour}
+use Rattle.model.specs.Layout.{Job, Entries, instanceFrom, scheduleFrom, partialFrom, countIn, Processors}
 use Rattle.model.proofs.LayoutLaws.{last-finish-at}
 use Rattle.starts.specs.declared.memory.Free.{Free}
 use Rattle.starts.specs.declared.memory.Free.the-variants.{Nowhere, From}
@@ -67,24 +70,24 @@ module _ (b : Shape) (J : Job) (L : Entries) (last : List ℕ) where
   slot p q e l = last-finish-at b L last q l ∙ ap (λ p. getD last p 0) e
 
   module _ (f : Processors b) where
-    least-finish : (c : Bool) → processorStart I Q (colourBy c)
-        ≡ minUpTo (pred (countIn b c)) (at last (cond c 0 (b .board .blue .processors)))
+    least-finish : (c : Colour) → processorStart I Q (asColour c)
+        ≡ minUpTo (pred (countIn b c)) (at last (byColour c 0 (b .board .blue .processors)))
     unfolding processorStart instanceFrom
-    least-finish true = min-cong (pred (b .board .blue .processors)) _ _ (λ p l. slot (0 + p) p (omega arith) (omega (arith, f .blue .least)))
-    least-finish false =
+    least-finish Blue = min-cong (pred (b .board .blue .processors)) _ _ (λ p l. slot (0 + p) p (omega arith) (omega (arith, f .blue .least)))
+    least-finish Red =
         let m = b .board .blue .processors in
         min-cong (pred (b .board .red .processors)) _ _ (λ p l. slot (m + p) (m + p) refl (omega (arith, f .red .least)))
 
-    pub least-total : (c : Bool) {first n i : ℕ} → first ≡ cond c 0 (b .board .blue .processors) → n ≡ countIn b c
-        → i ≡ n → minUpTo (pred i) (at last first) ≡ processorStart I Q (colourBy c)
+    pub least-total : (c : Colour) {first n i : ℕ} → first ≡ byColour c 0 (b .board .blue .processors) → n ≡ countIn b c
+        → i ≡ n → minUpTo (pred i) (at last first) ≡ processorStart I Q (asColour c)
     least-total c x y z = rw (x, z, y, least-finish c)
 
   -- ---- the four starts
 
-  pub earliest-at : (i : ℕ) (c : Bool) {d : Demand} (x y z : Free) {one r : ℕ}
-      → DemandOf I P i (colourBy c) d → one ≡ processorStart I Q (colourBy c) → r ≡ max one (d .arrival)
-      → asOption x ≡ freeFrom I P (colourBy c) (d .incoming + d .outputs) → asOption y ≡ freeFrom I P (colourBy c) (d .incoming)
+  pub earliest-at : (i : ℕ) (c : Colour) {d : Demand} (x y z : Free) {one r : ℕ}
+      → DemandOf I P i (asColour c) d → one ≡ processorStart I Q (asColour c) → r ≡ max one (d .arrival)
+      → asOption x ≡ freeFrom I P (asColour c) (d .incoming + d .outputs) → asOption y ≡ freeFrom I P (asColour c) (d .incoming)
       → asOption z ≡ latest (some r) (latest (asOption x) (delayed (asOption y) (d .longest)))
-      → asOption z ≡ earliestStart I Q i (colourBy c)
+      → asOption z ≡ earliestStart I Q i (asColour c)
   unfolding earliestStart
   earliest-at i c x y z e e1 er ex ey ez = ez ∙ rw (ex, ey, er, e1, e .arrival, e .incoming, e .outputs, e .longest)

@@ -14,7 +14,9 @@ use Rattle.rules.proofs.Tests.{cond-zero}
 use Rattle.rules.proofs.ResidencyLaws.{free-nowhere}
 use Rattle.model.specs.declared.layout.Shape.{Shape}
 use Rattle.model.specs.declared.residency.Hold.{Hold}
-use Rattle.model.specs.Layout.{Job, Entries, instanceFrom, scheduleFrom, colourBy}
+use Rattle.model.specs.declared.colour.Colour.{Colour as Code}
+use Rattle.model.specs.Colours.{asColour, byColour}
+use Rattle.model.specs.Layout.{Job, Entries, instanceFrom, scheduleFrom}
 use Rattle.model.specs.Holds.{asHold}
 use Rattle.model.proofs.LayoutLaws.{file-count, limit-of}
 use Rattle.starts.specs.FreeMemory.{endOf, lateEnd}
@@ -33,8 +35,8 @@ module _ (b : Shape) (J : Job) (L : Entries) (need : ℕ) where
   abbrev P : Schedule
   P = scheduleFrom b L
 
-  pub fits-at : (c : Bool) (t : ℕ) {v l : ℕ} → v ≡ held I P (colourBy c) t → l ≡ cond c (b .board .blue .limit) (b .board .red .limit)
-      → leb (v + need) l ≡ fits I P (colourBy c) need t
+  pub fits-at : (c : Code) (t : ℕ) {v l : ℕ} → v ≡ held I P (asColour c) t → l ≡ byColour c (b .board .blue .limit) (b .board .red .limit)
+      → leb (v + need) l ≡ fits I P (asColour c) need t
   unfolding fits
   fits-at c t e g = rw (e, g, limit-of b J c)
 

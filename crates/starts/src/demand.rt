@@ -1,11 +1,14 @@
 // What a task needs on a colour: room for its files, and the arrival of those that it reads.
 ghost use Prim.Native.Nat.{_+_, _<_};
 ghost use Rattle.rules.specs.Limits.{maxFiles};
-ghost use Rattle.model.specs.Layout.{instanceOf, scheduleOf, colourBy, InBounds};
+ghost use Rattle.model.specs.Colours.{asColour};
+ghost use Rattle.model.specs.Layout.{instanceOf, scheduleOf, InBounds};
 ghost use Rattle.starts.specs.Demands.{DemandBelow, DemandOf, DemandBounds};
 use model::choice::greater;
 use model::choice::value_if;
-use model::crossing::crossing_file;
+use model::colour::Colour;
+use model::crossing::crossing_size;
+use model::crossing::crossing_time;
 use model::layout;
 use model::layout::Shape;
 use model::residency::finish;
@@ -27,22 +30,22 @@ fn with_file<'a>(
     schedule: &'a [u64; layout::SCHEDULE],
     k: usize,
     task: u64,
-    colour: bool,
+    colour: Colour,
 ) -> Demand
     requires { ⌜ InBounds shape (now job) (now schedule) ⌝ }
     requires { ⌜ k < shape .files ⌝ }
-    requires { ⌜ DemandBelow (instanceOf shape (now job)) (scheduleOf shape (now schedule)) task (colourBy colour) k demand ⌝ }
+    requires { ⌜ DemandBelow (instanceOf shape (now job)) (scheduleOf shape (now schedule)) task (asColour colour) k demand ⌝ }
     requires { ⌜ DemandBounds k demand ⌝ }
-    ensures { λ r. ⌜ DemandBelow (instanceOf shape (now (job .entry))) (scheduleOf shape (now (schedule .entry))) task (colourBy colour) (k + 1) r ⌝ }
+    ensures { λ r. ⌜ DemandBelow (instanceOf shape (now (job .entry))) (scheduleOf shape (now (schedule .entry))) task (asColour colour) (k + 1) r ⌝ }
     ensures { λ r. ⌜ DemandBounds (k + 1) r ⌝ }
 {
     let maker = layout::maker(shape, job, k);
     let reader = layout::reader(shape, job, k);
     let size = layout::size(job, k);
-    let crosses = crossing_file(shape, job, schedule, k, task, colour);
-    let time = value_if(crosses, layout::move_time(job, k));
+    let time = crossing_time(shape, job, schedule, k, task, colour);
+    let enters = crossing_size(shape, job, schedule, k, task, colour);
     let arrives = finish(shape, job, schedule, maker as usize) + time;
-    let incoming = demand.incoming + value_if(crosses, size);
+    let incoming = demand.incoming + enters;
     let outputs = demand.outputs + value_if(maker == task, size);
     let arrival = greater(demand.arrival, value_if(reader == task, arrives));
     let longest = greater(demand.longest, time);
@@ -60,10 +63,10 @@ pub fn demand_of<'a>(
     job: &'a [u64; layout::JOB],
     schedule: &'a [u64; layout::SCHEDULE],
     task: u64,
-    colour: bool,
+    colour: Colour,
 ) -> Demand
     requires { ⌜ InBounds shape (now job) (now schedule) ⌝ }
-    ensures { λ r. ⌜ DemandOf (instanceOf shape (now (job .entry))) (scheduleOf shape (now (schedule .entry))) task (colourBy colour) r ⌝ }
+    ensures { λ r. ⌜ DemandOf (instanceOf shape (now (job .entry))) (scheduleOf shape (now (schedule .entry))) task (asColour colour) r ⌝ }
     ensures { λ r. ⌜ DemandBounds maxFiles r ⌝ }
 {
     let mut demand = Demand {

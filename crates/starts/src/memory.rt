@@ -3,11 +3,13 @@ ghost use mathlib.Core.Path.{_≡_};
 ghost use Prim.Native.Nat.{_<_, _≤_};
 ghost use Rattle.rules.specs.Count.{maxBelow};
 ghost use Rattle.rules.specs.Scheduling.{fits, freeFrom};
-ghost use Rattle.model.specs.Layout.{instanceOf, scheduleOf, colourBy, InBounds, lastTick};
+ghost use Rattle.model.specs.Colours.{asColour};
+ghost use Rattle.model.specs.Layout.{instanceOf, scheduleOf, InBounds, lastTick};
 ghost use Rattle.model.specs.Holds.{asHold};
 ghost use Rattle.starts.specs.FreeMemory.{asOption, tickOf, endOf, lateEnd, mostNeeded};
 use model::choice::greater;
-use model::choice::select;
+use model::colour::Colour;
+use model::colour::by_colour;
 use model::layout;
 use model::layout::Shape;
 use model::residency::Hold;
@@ -26,16 +28,16 @@ pub fn fits_at<'a>(
     shape: Shape,
     job: &'a [u64; layout::JOB],
     schedule: &'a [u64; layout::SCHEDULE],
-    colour: bool,
+    colour: Colour,
     need: u64,
     t: u64,
 ) -> bool
     requires { ⌜ InBounds shape (now job) (now schedule) ⌝ }
     requires { ⌜ need ≤ mostNeeded ⌝ }
-    ensures { λ r. ⌜ r ≡ fits (instanceOf shape (now (job .entry))) (scheduleOf shape (now (schedule .entry))) (colourBy colour) need t ⌝ }
+    ensures { λ r. ⌜ r ≡ fits (instanceOf shape (now (job .entry))) (scheduleOf shape (now (schedule .entry))) (asColour colour) need t ⌝ }
 {
     let held = held_at(shape, job, schedule, colour, t);
-    let limit = select(colour, shape.board.blue.limit, shape.board.red.limit);
+    let limit = by_colour(colour, shape.board.blue.limit, shape.board.red.limit);
     held + need <= limit
 }
 
@@ -56,13 +58,13 @@ fn late_end<'a>(
     job: &'a [u64; layout::JOB],
     schedule: &'a [u64; layout::SCHEDULE],
     k: usize,
-    colour: bool,
+    colour: Colour,
     need: u64,
 ) -> u64
     requires { ⌜ InBounds shape (now job) (now schedule) ⌝ }
     requires { ⌜ k < shape .files ⌝ }
     requires { ⌜ need ≤ mostNeeded ⌝ }
-    ensures { λ r. ⌜ r ≡ lateEnd (instanceOf shape (now (job .entry))) (scheduleOf shape (now (schedule .entry))) (colourBy colour) need k ⌝ }
+    ensures { λ r. ⌜ r ≡ lateEnd (instanceOf shape (now (job .entry))) (scheduleOf shape (now (schedule .entry))) (asColour colour) need k ⌝ }
     ensures { λ r. ⌜ r ≤ lastTick ⌝ }
 {
     let e = end_of(hold_of(shape, job, schedule, k, colour));
@@ -80,13 +82,13 @@ fn last_late<'a>(
     shape: Shape,
     job: &'a [u64; layout::JOB],
     schedule: &'a [u64; layout::SCHEDULE],
-    colour: bool,
+    colour: Colour,
     need: u64,
 ) -> u64
     requires { ⌜ InBounds shape (now job) (now schedule) ⌝ }
     requires { ⌜ need ≤ mostNeeded ⌝ }
     ensures { λ r. ⌜ r
-        ≡ maxBelow (shape .files) (lateEnd (instanceOf shape (now (job .entry))) (scheduleOf shape (now (schedule .entry))) (colourBy colour) need) ⌝ }
+        ≡ maxBelow (shape .files) (lateEnd (instanceOf shape (now (job .entry))) (scheduleOf shape (now (schedule .entry))) (asColour colour) need) ⌝ }
     ensures { λ r. ⌜ r ≤ lastTick ⌝ }
 {
     let mut most: u64 = 0;
@@ -104,12 +106,12 @@ pub fn free_from<'a>(
     shape: Shape,
     job: &'a [u64; layout::JOB],
     schedule: &'a [u64; layout::SCHEDULE],
-    colour: bool,
+    colour: Colour,
     need: u64,
 ) -> Free
     requires { ⌜ InBounds shape (now job) (now schedule) ⌝ }
     requires { ⌜ need ≤ mostNeeded ⌝ }
-    ensures { λ r. ⌜ asOption r ≡ freeFrom (instanceOf shape (now (job .entry))) (scheduleOf shape (now (schedule .entry))) (colourBy colour) need ⌝ }
+    ensures { λ r. ⌜ asOption r ≡ freeFrom (instanceOf shape (now (job .entry))) (scheduleOf shape (now (schedule .entry))) (asColour colour) need ⌝ }
     ensures { λ r. ⌜ tickOf r ≤ lastTick ⌝ }
 {
     let settled = horizon_of(shape, job, schedule, colour);

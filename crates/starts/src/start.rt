@@ -4,7 +4,8 @@ ghost use mathlib.Core.Option.{some};
 ghost use Prim.Native.Nat.{_+_, _≤_};
 ghost use Rattle.rules.specs.Limits.{moveTimes};
 ghost use Rattle.rules.specs.Scheduling.{processorStart, latest as rules-latest, delayed, earliestStart};
-ghost use Rattle.model.specs.Layout.{Job, Entries, instanceFrom, partialFrom, instanceOf, partialOf, colourBy};
+ghost use Rattle.model.specs.Colours.{asColour};
+ghost use Rattle.model.specs.Layout.{Job, Entries, instanceFrom, partialFrom, instanceOf, partialOf};
 ghost use Rattle.model.specs.Layout.{Processors, InBounds, LastBounds, lastTick, lastStart};
 ghost use Rattle.starts.specs.FreeMemory.{asOption, tickOf};
 use super::demand::demand_of;
@@ -12,20 +13,21 @@ use super::memory::Free;
 use super::memory::free_from;
 use model::choice::greater;
 use model::choice::lesser;
-use model::choice::select;
+use model::colour::Colour;
+use model::colour::by_colour;
 use model::layout;
 use model::layout::Shape;
 
 // Start 1: the least last finish of the colour's processors.
-pub fn processor_start(shape: Shape, last: &[u64; layout::LAST], colour: bool) -> u64
+pub fn processor_start(shape: Shape, last: &[u64; layout::LAST], colour: Colour) -> u64
     requires { ⌜ Processors shape ⌝ }
     requires { ⌜ LastBounds shape (now last) ⌝ }
-    ensures { λ r. ⌜ ((J : Job) (L : Entries) → r ≡ processorStart (instanceFrom shape J) (partialFrom shape L (now (last .entry))) (colourBy colour)) ⌝ }
+    ensures { λ r. ⌜ ((J : Job) (L : Entries) → r ≡ processorStart (instanceFrom shape J) (partialFrom shape L (now (last .entry))) (asColour colour)) ⌝ }
     ensures { λ r. ⌜ r ≤ lastTick ⌝ }
 {
     let blue = shape.board.blue.processors;
-    let first = select(colour, 0, blue);
-    let count = select(colour, blue, shape.board.red.processors);
+    let first = by_colour(colour, 0, blue);
+    let count = by_colour(colour, blue, shape.board.red.processors);
     let at = first as usize;
     let mut least = last[at];
     let mut i: u64 = 1;
@@ -59,12 +61,12 @@ pub fn earliest_start<'a>(
     schedule: &'a [u64; layout::SCHEDULE],
     last: &'a [u64; layout::LAST],
     task: u64,
-    colour: bool,
+    colour: Colour,
 ) -> Free
     requires { ⌜ InBounds shape (now job) (now schedule) ⌝ }
     requires { ⌜ LastBounds shape (now last) ⌝ }
     ensures { λ r. ⌜ asOption r
-        ≡ earliestStart (instanceOf shape (now (job .entry))) (partialOf shape (now (schedule .entry)) (now (last .entry))) task (colourBy colour) ⌝ }
+        ≡ earliestStart (instanceOf shape (now (job .entry))) (partialOf shape (now (schedule .entry)) (now (last .entry))) task (asColour colour) ⌝ }
     ensures { λ r. ⌜ tickOf r ≤ lastStart ⌝ }
 {
     let demand = demand_of(shape, job, schedule, task, colour);

@@ -1,17 +1,18 @@
 -- The lowest reader of an early file is the lowest task that reads one.
 use Prim.Native.Nat.{ℕ, _<_}
-use mathlib.Core.Bool.{Bool, true}
-use mathlib.Core.Path.{_≡_, _∙_}
+use mathlib.Core.Bool.{Bool, true, false, cond, _||_}
+use mathlib.Core.Path.{_≡_, refl, _∙_}
 use native.Mathlib.Omega.{arith}
-use lib.Dec.{eqb}
+use lib.Dec.{ltb, eqb}
 use borrow.Author.Tests.{eqb-true, eq-eqb}
 use Rattle.rules.specs.Count.{firstBelow}
-use Rattle.rules.specs.Model.{Instance, taskCount, fileAt, fileCount, Schedule}
+use Rattle.rules.specs.Model.{Instance, taskCount, fileAt, fileCount, Schedule, moveEnd}
 use Rattle.rules.specs.Validity.{early, earlyFor, readsEarly}
 use Rattle.rules.proofs.Tests.{and-true}
 use Rattle.rules.proofs.CountLaws.{any-found, any-some, first-is}
 use Rattle.model.specs.declared.residency.FileTimes.{FileTimes}
 use Rattle.model.specs.Holds.{TimesOf}
+use Rattle.model.proofs.FileLaws.{arrives-moved}
 use Rattle.validator.specs.Early.{tooEarly}
 use Rattle.validator.specs.Least.{leastWhere}
 use Rattle.validator.proofs.LeastLaws.{least-default, least-bound, least-reached}
@@ -19,10 +20,21 @@ use Rattle.validator.proofs.LeastLaws.{least-default, least-bound, leas
 abbrev pub readerOf : Instance → ℕ → ℕ
 readerOf I k = fileAt I k .reader
 
+-- only of a file that moves does the test read when it arrives
+early-arrives : (moves : Bool) (d m s x y : ℕ) → (moves ≡ true → x ≡ y) → cond moves (ltb d m || ltb s x) (ltb s m) ≡ cond moves (ltb d m || ltb s y) (ltb s m)
+early-arrives true d m s x y u = rw (u refl)
+early-arrives false d m s x y u = refl
+
 -- whether a file is early, from its times
 pub early-from : {I : Instance} {P : Schedule} {k : ℕ} {t : FileTimes} {r : Bool} → TimesOf I P k t → r ≡ tooEarly t → r ≡ early I P k
 unfolding early
-early-from times e = e ∙ rw (times .moves, times .made, times .departs, times .arrives, times .starts)
+early-from {I} {P} {k} {t} times e = e ∙ rw (
+  early-arrives (t .moves) (t .departs) (t .made) (t .starts) (t .arrives) (moveEnd I P k) (arrives-moved I P k t times),
+  times .moves,
+  times .made,
+  times .departs,
+  times .starts,
+)
 
 module _ (I : Instance) (P : Schedule) where
   reads-early : (k j : ℕ) → k < fileCount I → early I P k ≡ true → readerOf I k ≡ j → readsEarly I P j ≡ true

@@ -14,6 +14,7 @@ use Rattle.rules.specs.Model.{Colour, blue, red, Instance, Schedule, taskCount,
 use Rattle.rules.specs.Residency.{held}
 use Rattle.rules.specs.Validity.{overlaps, early, readsEarly, over}
 use Rattle.model.specs.declared.layout.Shape.{Shape}
+use Rattle.model.specs.declared.colour.Colour.the-variants.{Blue, Red}
 use Rattle.model.specs.Layout.{Job, Entries, Bounds, instanceFrom, scheduleFrom}
 use Rattle.model.proofs.LayoutLaws.{file-count, task-count, reader-at, run-at, limit-of}
 use Rattle.claims.specs.Starts.{startIn}
@@ -77,11 +78,11 @@ module _ {b : Shape} {J : Job} {L : Entries} (f : Bounds b J L) where
     over-in-total last e = rw (file-count b J, e)
 
   pub over-yes : (t : ℕ) {x : ℕ} → x ≡ held I P blue t → b .board .blue .limit < x → true ≡ over I P t
-  over-yes t {x} e l = sym (over-by I P blue t (omega (arith, limit-of b J true)))
+  over-yes t {x} e l = sym (over-by I P blue t (omega (arith, limit-of b J Blue)))
 
   pub over-rest : (t : ℕ) {x y : ℕ} → x ≡ held I P blue t → x ≤ b .board .blue .limit → y ≡ held I P red t → ltb (b .board .red .limit) y ≡ over I P t
   over-rest t {x} {y} e l g =
-      let z = over-is I P t (sym (limit-of b J true)) (sym (limit-of b J false)) e g in
+      let z = over-is I P t (sym (limit-of b J Blue)) (sym (limit-of b J Red)) e g in
       rw (le-ltb (b .board .blue .limit) x l) at z
 
   pub over-total : {x y r : ℕ} (last : ℕ) → r ≡ min x y → x ≡ firstOverIn I P blue last → y ≡ firstOverIn I P red last → r ≡ firstBelow last (over I P)

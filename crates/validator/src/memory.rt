@@ -5,12 +5,14 @@ ghost use Rattle.rules.specs.Count.{firstBelow};
 ghost use Rattle.rules.specs.Model.{blue as rules-blue, red as rules-red};
 ghost use Rattle.rules.specs.Residency.{horizon};
 ghost use Rattle.rules.specs.Validity.{over};
-ghost use Rattle.model.specs.Layout.{instanceOf, scheduleOf, colourBy, InBounds};
+ghost use Rattle.model.specs.Colours.{asColour};
+ghost use Rattle.model.specs.Layout.{instanceOf, scheduleOf, InBounds};
 ghost use Rattle.validator.specs.OverLimit.{firstOverIn};
 use claims::hold_start;
 use model::choice::greater;
 use model::choice::lesser;
 use model::choice::select;
+use model::colour::Colour;
 use model::layout;
 use model::layout::Shape;
 use model::residency::held_at;
@@ -26,10 +28,10 @@ fn over_at<'a>(
     requires { ⌜ InBounds shape (now job) (now schedule) ⌝ }
     ensures { λ r. ⌜ r ≡ over (instanceOf shape (now (job .entry))) (scheduleOf shape (now (schedule .entry))) t ⌝ }
 {
-    if shape.board.blue.limit < held_at(shape, job, schedule, true, t) {
+    if shape.board.blue.limit < held_at(shape, job, schedule, Colour::Blue, t) {
         return true;
     }
-    shape.board.red.limit < held_at(shape, job, schedule, false, t)
+    shape.board.red.limit < held_at(shape, job, schedule, Colour::Red, t)
 }
 
 // The least start of a hold in the memory of the colour at which a memory is over its limit, or `last`.
@@ -37,12 +39,12 @@ fn first_over_in<'a>(
     shape: Shape,
     job: &'a [u64; layout::JOB],
     schedule: &'a [u64; layout::SCHEDULE],
-    colour: bool,
+    colour: Colour,
     last: u64,
 ) -> u64
     requires { ⌜ InBounds shape (now job) (now schedule) ⌝ }
     ensures { λ r. ⌜ r ≡
-        firstOverIn (instanceOf shape (now (job .entry))) (scheduleOf shape (now (schedule .entry))) (colourBy colour) last ⌝ }
+        firstOverIn (instanceOf shape (now (job .entry))) (scheduleOf shape (now (schedule .entry))) (asColour colour) last ⌝ }
 {
     let mut first: u64 = last;
     let mut i: usize = 0;
@@ -65,8 +67,8 @@ pub fn first_over<'a>(
     ensures { λ r. ⌜ r ≡ firstBelow last (over (instanceOf shape (now (job .entry))) (scheduleOf shape (now (schedule .entry)))) ⌝ }
 {
     lesser(
-        first_over_in(shape, job, schedule, true, last),
-        first_over_in(shape, job, schedule, false, last),
+        first_over_in(shape, job, schedule, Colour::Blue, last),
+        first_over_in(shape, job, schedule, Colour::Red, last),
     )
 }
 
@@ -82,7 +84,7 @@ pub fn settled<'a>(
         (horizon (instanceOf shape (now (job .entry))) (scheduleOf shape (now (schedule .entry))) rules-red) ⌝ }
 {
     greater(
-        horizon_of(shape, job, schedule, true),
-        horizon_of(shape, job, schedule, false),
+        horizon_of(shape, job, schedule, Colour::Blue),
+        horizon_of(shape, job, schedule, Colour::Red),
     )
 }

@@ -3,7 +3,8 @@ use Prim.Native.Nat.{_≤_, _-_}
 use mathlib.Core.Path.{_≡_, sym}
 use native.Mathlib.Omega.{arith}
 use Rattle.rules.specs.Count.{maxBelow}
-use Rattle.model.specs.Layout.{jobOf, entriesOf, instanceFrom, scheduleFrom, colourBy, mostHeld}
+use Rattle.model.specs.Colours.{asColour}
+use Rattle.model.specs.Layout.{jobOf, entriesOf, instanceFrom, scheduleFrom, mostHeld}
 use Rattle.model.proofs.StepLaws.{max-none}
 use Rattle.claims.specs.Starts.{heldAtStart}
 use Rattle.claims.proofs.ClaimLoops.{peak-turn, peak-total}
@@ -14,7 +15,7 @@ use Rattle.claims.proofs.peak.Tie as tie
 abbrev Inv-loop : tie.InvT-loop
 Inv-loop shape job schedule colour most₀ i₀ most i =
     (i ≤ shape .files) × (most ≤ mostHeld)
-    × (most ≡ maxBelow i (heldAtStart (instanceFrom shape (jobOf job)) (scheduleFrom shape (entriesOf schedule)) (colourBy colour)))
+    × (most ≡ maxBelow i (heldAtStart (instanceFrom shape (jobOf job)) (scheduleFrom shape (entriesOf schedule)) (asColour colour)))
 
 abbrev μ-loop : tie.MeasureT-loop
 μ-loop shape job schedule colour most₀ i₀ most i = shape .files - i
@@ -41,11 +42,11 @@ loop-again : tie.Need-loop-again Inv-loop μ-loop
 loop-again c =
     let l = c .before .before .before .before .before in
     let s = l .before in
-    omega (arith, peak-turn (s .pre .0) (colourBy (s .args .colour)) (l .loop .i) (c .before .before .hold-start .ensures) (c .before .held-at .ensures .0))
+    omega (arith, peak-turn (s .pre .0) (asColour (s .args .colour)) (l .loop .i) (c .before .before .hold-start .ensures) (c .before .held-at .ensures .0))
 
 returns : tie.Need-returns Inv-loop μ-loop
 returns c = let s = c .before .before .before in
-    omega (arith, peak-total (s .pre .0) (colourBy (s .args .colour)) (s .pre .1) {n = c .before .before .loop .i} (omega arith))
+    omega (arith, peak-total (s .pre .0) (asColour (s .args .colour)) (s .pre .1) {n = c .before .before .loop .i} (omega arith))
 
 pub peak-spec : {M : Type 1} → statement M
 peak-spec =

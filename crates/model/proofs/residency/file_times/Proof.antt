@@ -12,25 +12,22 @@ maker-requires c κs = search needs
 reader-requires : tie.Need-reader-requires
 reader-requires c κs = search needs
 
+actual-move-time-requires : tie.Need-actual-move-time-requires
+actual-move-time-requires c κs = search needs
+
 move-start-requires : tie.Need-move-start-requires
 move-start-requires c κs = search needs
 
-moves-requires : tie.Need-moves-requires
-moves-requires c κs = search needs
+add-arrives : tie.Need-add-arrives
+add-arrives c =
+    let s = c .before .before .before .before in
+    omega (arith, s .pre .0 .schedule .moveStart (s .args .k) (s .pre .1))
 
 start-requires : tie.Need-start-requires
 start-requires c κs = search needs
 
 finish-requires : tie.Need-finish-requires
 finish-requires c κs = search needs
-
-move-time-requires : tie.Need-move-time-requires
-move-time-requires c κs = search needs
-
-add-t12 : tie.Need-add-t12
-add-t12 c =
-    let s = c .before .before .before .before .before .before .before in
-    omega (arith, s .pre .0 .job .moveTime (s .args .k) (s .pre .1), s .pre .0 .schedule .moveStart (s .args .k) (s .pre .1))
 
 start-requires-2 : tie.Need-start-requires-2
 start-requires-2 c κs = search needs
@@ -40,22 +37,21 @@ release-requires c κs = search needs
 
 returns : tie.Need-returns
 returns c =
-    let t = c .before .before in
-    let b = t .before .before in
-    let v = b .before .before in
-    let d = v .before in
+    let made = c .before .before in
+    let departs = made .before .before in
+    let takes = departs .before in
+    let d = takes .before in
     let m = d .before in
     let s = m .before in
     let k = s .args .k in
     let h = s .pre .1 in (
-      times-from (s .pre .0 .job) (entriesOf (s .args .schedule .now)) h (m .maker .ensures .0) (d .reader .ensures .0)
-          (b .before .moves .ensures) (b .start .ensures) (t .before .finish .ensures .0) (v .move-start .ensures) (t .move-time .ensures)
-          (c .before .start2 .ensures) (c .release .ensures .0),
+      times-from (s .pre .0 .job) (entriesOf (s .args .schedule .now)) h (m .maker .ensures .0) (d .reader .ensures .0) (takes .actual-move-time .ensures .0)
+          (made .before .start .ensures) (made .finish .ensures .0) (departs .move-start .ensures) (c .before .start2 .ensures) (c .release .ensures .0),
       record {
-        begun = omega (arith, b .start .ensures, s .pre .0 .schedule .start _ (m .maker .ensures .1));
-        made = t .before .finish .ensures .1;
-        departs = omega (arith, v .move-start .ensures, s .pre .0 .schedule .moveStart k h);
-        arrives = omega (arith, v .move-start .ensures, s .pre .0 .schedule .moveStart k h, t .move-time .ensures, s .pre .0 .job .moveTime k h);
+        begun = omega (arith, made .before .start .ensures, s .pre .0 .schedule .start _ (m .maker .ensures .1));
+        made = made .finish .ensures .1;
+        departs = omega (arith, departs .move-start .ensures, s .pre .0 .schedule .moveStart k h);
+        arrives = omega (arith, departs .move-start .ensures, s .pre .0 .schedule .moveStart k h, takes .actual-move-time .ensures .1);
         starts = omega (arith, c .before .start2 .ensures, s .pre .0 .schedule .start _ (d .reader .ensures .1));
         released = c .release .ensures .1;
       },
@@ -67,12 +63,11 @@ file-times-spec =
     (tie.spec
     maker-requires
     reader-requires
+    actual-move-time-requires
     move-start-requires
-    moves-requires
+    add-arrives
     start-requires
     finish-requires
-    move-time-requires
-    add-t12
     start-requires-2
     release-requires
     returns)

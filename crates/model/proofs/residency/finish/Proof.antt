@@ -1,12 +1,13 @@
 -- `finish` meets its contract.
 use native.Mathlib.Omega.{arith}
+use Rattle.model.specs.Layout.{jobOf, entriesOf}
 use Rattle.model.proofs.LayoutLaws.{finish-at}
 use borrow.Author.Needs.{needs}
 use Rattle.model.proofs.residency.finish.Statement.{statement}
 use Rattle.model.proofs.residency.finish.Tie as tie
 
-on-blue-requires : tie.Need-on-blue-requires
-on-blue-requires c κs = search needs
+colour-of-requires : tie.Need-colour-of-requires
+colour-of-requires c κs = search needs
 
 run-time-requires : tie.Need-run-time-requires
 run-time-requires c κs = search needs
@@ -27,10 +28,11 @@ returns c =
     let i = s .args .i in
     let h = s .pre .1 in
     let run = c .before .run-time .ensures in (
-      finish-at (s .pre .0) h (c .start .ensures) (c .before .before .on-blue .ensures) (run .0),
+      finish-at (s .args .shape) (jobOf (s .args .job .now)) (entriesOf (s .args .schedule .now)) h (c .before .before .colour-of .result) (c .start .ensures)
+          (c .before .before .colour-of .ensures) (run .0),
       omega (arith, s .pre .0 .schedule .start i h, s .pre .0 .job .onBlue i h, s .pre .0 .job .onRed i h, run .1),
     )
 
 pub finish-spec : {M : Type 1} → statement M
 finish-spec =
-    tie.close (tie.spec on-blue-requires run-time-requires start-requires add-result returns)
+    tie.close (tie.spec colour-of-requires run-time-requires start-requires add-result returns)

@@ -6,7 +6,8 @@ use Rattle.rules.specs.Count.{sumWhere}
 use Rattle.rules.specs.Limits.{fileSizes}
 use Rattle.rules.specs.Model.{sizeAt}
 use Rattle.rules.specs.Residency.{isHeld}
-use Rattle.model.specs.Layout.{jobOf, entriesOf, instanceFrom, scheduleFrom, colourBy}
+use Rattle.model.specs.Colours.{asColour}
+use Rattle.model.specs.Layout.{jobOf, entriesOf, instanceFrom, scheduleFrom}
 use Rattle.model.proofs.StepLaws.{sum-none}
 use Rattle.model.proofs.ResidencyLoops.{held-turn, held-total}
 use borrow.Author.Needs.{needs}
@@ -17,7 +18,7 @@ abbrev Inv-loop : tie.InvT-loop
 Inv-loop shape job schedule colour t sum₀ i₀ sum i =
     let I = instanceFrom shape (jobOf job) in
     (i ≤ shape .files) × (sum ≤ fileSizes .most * i)
-    × (sum ≡ sumWhere i (isHeld I (scheduleFrom shape (entriesOf schedule)) (colourBy colour) t) (sizeAt I))
+    × (sum ≡ sumWhere i (isHeld I (scheduleFrom shape (entriesOf schedule)) (asColour colour) t) (sizeAt I))
 
 abbrev μ-loop : tie.MeasureT-loop
 μ-loop shape job schedule colour t sum₀ i₀ sum i = shape .files - i
@@ -60,14 +61,14 @@ loop-again c =
     omega (
       arith,
       s .pre .job .size (l .loop .i) h,
-      held-turn (s .pre) (colourBy (s .args .colour)) h (s .args .t) (c .value-if .result) (z .size .result) (x .hold-of .result) (y .covers .result)
+      held-turn (s .pre) (asColour (s .args .colour)) h (s .args .t) (c .value-if .result) (z .size .result) (x .hold-of .result) (y .covers .result)
           (x .hold-of .ensures .0) (y .covers .ensures) (z .size .ensures) (c .value-if .ensures .0),
     )
 
 returns : tie.Need-returns Inv-loop μ-loop
 returns c =
     let s = c .before .before .before in
-    omega (arith, held-total (s .pre) (colourBy (s .args .colour)) {n = c .before .before .loop .i} (omega arith) (s .args .t))
+    omega (arith, held-total (s .pre) (asColour (s .args .colour)) {n = c .before .before .loop .i} (omega arith) (s .args .t))
 
 pub held-at-spec : {M : Type 1} → statement M
 held-at-spec =

@@ -1,7 +1,8 @@
 -- `hold_of` meets its contract: the times of the file give the rules' hold.
 use mathlib.Core.Path.{_∙_}
 use native.Mathlib.Omega.{arith}
-use Rattle.model.specs.Layout.{jobOf, entriesOf, instanceFrom, scheduleFrom, colourBy}
+use Rattle.model.specs.Colours.{asColour}
+use Rattle.model.specs.Layout.{jobOf, entriesOf, instanceFrom, scheduleFrom}
 use Rattle.model.proofs.FileLaws.{maker-placed, maker-here, reader-placed, hold-from}
 use borrow.Author.Needs.{needs}
 use Rattle.model.proofs.residency.hold_of.Statement.{statement}
@@ -19,8 +20,8 @@ processor-requires c κs = search needs
 processor-requires-2 : tie.Need-processor-requires-2
 processor-requires-2 c κs = search needs
 
-on-blue-requires : tie.Need-on-blue-requires
-on-blue-requires c κs = search needs
+colour-of-requires : tie.Need-colour-of-requires
+colour-of-requires c κs = search needs
 
 same-colour-requires : tie.Need-same-colour-requires
 same-colour-requires c κs = search needs
@@ -44,10 +45,10 @@ returns c =
     let h = s .pre .1 in
     let times = c .before .file-times .ensures in (
       c .hold-when .ensures .0
-          ∙ hold-from I (scheduleFrom (s .args .shape) L) (colourBy (s .args .colour)) (times .0)
+          ∙ hold-from I (scheduleFrom (s .args .shape) L) (asColour (s .args .colour)) (times .0)
           (maker-placed f L h (m .maker .ensures .0) (p .processor .ensures))
           (reader-placed f L h (d .reader .ensures .0) (x .before .processor2 .ensures))
-          (maker-here f L h (m .maker .ensures .0) (s .args .colour) (x .on-blue .ensures) (c .before .before .same-colour .ensures)),
+          (maker-here f L h (m .maker .ensures .0) (asColour (s .args .colour)) (x .colour-of .ensures) (c .before .before .same-colour .ensures)),
       omega (arith, c .hold-when .ensures .1, times .1),
     )
 
@@ -59,7 +60,7 @@ hold-of-spec =
     reader-requires
     processor-requires
     processor-requires-2
-    on-blue-requires
+    colour-of-requires
     same-colour-requires
     file-times-requires
     hold-when-requires

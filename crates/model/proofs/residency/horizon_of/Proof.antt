@@ -4,7 +4,8 @@ use mathlib.Core.Path.{_≡_, sym}
 use native.Mathlib.Omega.{arith}
 use Rattle.rules.specs.Count.{maxBelow}
 use Rattle.rules.specs.Residency.{settlesAt}
-use Rattle.model.specs.Layout.{jobOf, entriesOf, instanceFrom, scheduleFrom, colourBy, lastTick}
+use Rattle.model.specs.Colours.{asColour}
+use Rattle.model.specs.Layout.{jobOf, entriesOf, instanceFrom, scheduleFrom, lastTick}
 use Rattle.model.proofs.StepLaws.{max-none}
 use Rattle.model.proofs.ResidencyLoops.{horizon-turn, horizon-total}
 use borrow.Author.Needs.{needs}
@@ -14,7 +15,7 @@ use Rattle.model.proofs.residency.horizon_of.Tie as tie
 abbrev Inv-loop : tie.InvT-loop
 Inv-loop shape job schedule colour most₀ i₀ most i =
     (i ≤ shape .files) × (most ≤ lastTick)
-    × (most ≡ maxBelow i (settlesAt (instanceFrom shape (jobOf job)) (scheduleFrom shape (entriesOf schedule)) (colourBy colour)))
+    × (most ≡ maxBelow i (settlesAt (instanceFrom shape (jobOf job)) (scheduleFrom shape (entriesOf schedule)) (asColour colour)))
 
 abbrev μ-loop : tie.MeasureT-loop
 μ-loop shape job schedule colour most₀ i₀ most i = shape .files - i
@@ -45,13 +46,13 @@ loop-again c =
     let h = x .before .if1 .taken in
     omega (
       arith,
-      horizon-turn (s .pre) (colourBy (s .args .colour)) h (z .settles .result) (x .hold-of .result) (x .hold-of .ensures .0) (z .settles .ensures),
+      horizon-turn (s .pre) (asColour (s .args .colour)) h (z .settles .result) (x .hold-of .result) (x .hold-of .ensures .0) (z .settles .ensures),
     )
 
 returns : tie.Need-returns Inv-loop μ-loop
 returns c =
     let s = c .before .before .before in
-    omega (arith, horizon-total (s .pre) (colourBy (s .args .colour)) {n = c .before .before .loop .i} (omega arith))
+    omega (arith, horizon-total (s .pre) (asColour (s .args .colour)) {n = c .before .before .loop .i} (omega arith))
 
 pub horizon-of-spec : {M : Type 1} → statement M
 horizon-of-spec =

@@ -1,16 +1,14 @@
 -- `move_with` meets its contract.
 use mathlib.Core.Path.{_∙_}
-use Rattle.model.specs.Layout.{entriesOf, colourBy}
+use Rattle.model.specs.Colours.{asColour}
+use Rattle.model.specs.Layout.{entriesOf}
 use Rattle.placement.proofs.MoveLaws.{move-from}
 use borrow.Author.Needs.{needs}
 use Rattle.placement.proofs.moves.move_with.Statement.{statement}
 use Rattle.placement.proofs.moves.move_with.Tie as tie
 
-crossing-file-requires : tie.Need-crossing-file-requires
-crossing-file-requires c κs = search needs
-
-move-time-requires : tie.Need-move-time-requires
-move-time-requires c κs = search needs
+crossing-time-requires : tie.Need-crossing-time-requires
+crossing-time-requires c κs = search needs
 
 saturating-sub-requires : tie.Need-saturating-sub-requires
 saturating-sub-requires c κs = search needs
@@ -23,18 +21,16 @@ select-requires c κs = search needs
 
 returns : tie.Need-returns
 returns c =
-    let s = c .before .before .before .before .before in
+    let s = c .before .before .before .before in
     c .select .ensures .0
-    ∙ move-from (s .pre .0) (entriesOf (s .args .schedule .now)) (s .pre .1) (s .args .i) (colourBy (s .args .colour)) (s .args .start)
-    (c .before .before .before .before .crossing-file .ensures) (c .before .before .before .move-time .ensures)
-    (c .before .before .saturating-sub .ensures) (c .before .move-start .ensures)
+    ∙ move-from (s .pre .0) (entriesOf (s .args .schedule .now)) (s .pre .1) (s .args .i) (asColour (s .args .colour)) (s .args .start)
+    (c .before .before .before .crossing-time .ensures .0) (c .before .before .saturating-sub .ensures) (c .before .move-start .ensures)
 
 pub move-with-spec : {M : Type 1} → statement M
 move-with-spec =
     tie.close
     (tie.spec
-    crossing-file-requires
-    move-time-requires
+    crossing-time-requires
     saturating-sub-requires
     move-start-requires
     select-requires

@@ -1,7 +1,8 @@
 -- `set_moves` meets its contract. The invariant: the move starts of the files passed are set.
 use Prim.Native.Nat.{_≤_, _-_}
 use native.Mathlib.Omega.{arith}
-use Rattle.model.specs.Layout.{jobOf, colourBy, JobBounds}
+use Rattle.model.specs.Colours.{asColour}
+use Rattle.model.specs.Layout.{jobOf, JobBounds}
 use Rattle.placement.proofs.MoveLaws.{MovesTo, moves-none, moves-turn, moves-total}
 use borrow.Author.Needs.{needs}
 use Rattle.placement.proofs.moves.set_moves.Statement.{statement}
@@ -9,7 +10,7 @@ use Rattle.placement.proofs.moves.set_moves.Tie as tie
 
 abbrev Inv-loop : tie.InvT-loop
 Inv-loop shape job schedule₀ i colour start k₀ schedule k =
-    (k ≤ shape .files) × ((f : JobBounds shape (jobOf job)) → MovesTo f schedule₀ i (colourBy colour) start schedule k)
+    (k ≤ shape .files) × ((f : JobBounds shape (jobOf job)) → MovesTo f schedule₀ i (asColour colour) start schedule k)
 
 abbrev μ-loop : tie.MeasureT-loop
 μ-loop shape job schedule₀ i colour start k₀ schedule k = shape .files - k
@@ -40,7 +41,7 @@ returns : tie.Need-returns Inv-loop μ-loop
 returns c =
     let s = c .before .before .before in
     let m = c .before .before .loop .inv .1 (s .pre .0) in
-    (m .size, (m .runs, moves-total (s .pre .0) (s .args .schedule .now) (s .args .i) (colourBy (s .args .colour)) (s .args .start) (omega arith) m))
+    (m .size, (m .runs, moves-total (s .pre .0) (s .args .schedule .now) (s .args .i) (asColour (s .args .colour)) (s .args .start) (omega arith) m))
 
 pub set-moves-spec : {M : Type 1} → statement M
 set-moves-spec =

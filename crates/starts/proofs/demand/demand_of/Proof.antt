@@ -1,7 +1,8 @@
 -- `demand_of` meets its contract. The invariant: the demand of the files passed.
 use Prim.Native.Nat.{_≤_, _-_}
 use native.Mathlib.Omega.{arith}
-use Rattle.model.specs.Layout.{jobOf, entriesOf, instanceOf, scheduleOf, colourBy}
+use Rattle.model.specs.Colours.{asColour}
+use Rattle.model.specs.Layout.{jobOf, entriesOf, instanceOf, scheduleOf}
 use Rattle.starts.specs.Demands.{DemandBelow, DemandBounds}
 use Rattle.starts.proofs.DemandLaws.{demand-none, demand-all}
 use borrow.Author.Needs.{needs}
@@ -11,7 +12,7 @@ use Rattle.starts.proofs.demand.demand_of.Tie as tie
 abbrev Inv-loop : tie.InvT-loop
 Inv-loop shape job schedule task colour demand₀ i₀ demand i =
     (i ≤ shape .files) × DemandBounds i demand
-    × DemandBelow (instanceOf shape job) (scheduleOf shape schedule) task (colourBy colour) i demand
+    × DemandBelow (instanceOf shape job) (scheduleOf shape schedule) task (asColour colour) i demand
 
 abbrev μ-loop : tie.MeasureT-loop
 μ-loop shape job schedule task colour demand₀ i₀ demand i = shape .files - i
@@ -21,7 +22,7 @@ loop-holds c =
     let a = c .args in (
       omega arith,
       record { incoming = omega arith; outputs = omega arith; arrival = omega arith; longest = omega arith },
-      demand-none (a .shape) (jobOf (a .job .now)) (entriesOf (a .schedule .now)) (a .task) (colourBy (a .colour)),
+      demand-none (a .shape) (jobOf (a .job .now)) (entriesOf (a .schedule .now)) (a .task) (asColour (a .colour)),
     )
 
 with-file-requires : tie.Need-with-file-requires Inv-loop μ-loop
@@ -43,7 +44,7 @@ returns c =
     let s = c .before .before .before in
     let a = s .args in
     let inv = c .before .before .loop .inv in
-    let all = demand-all (a .shape) (jobOf (a .job .now)) (entriesOf (a .schedule .now)) (a .task) (colourBy (a .colour)) (inv .2) (omega arith) in
+    let all = demand-all (a .shape) (jobOf (a .job .now)) (entriesOf (a .schedule .now)) (a .task) (asColour (a .colour)) (inv .2) (omega arith) in
     (all, record { incoming = omega (arith, s .pre .job .files); outputs = omega (arith, s .pre .job .files); arrival = omega arith; longest = omega arith })
 
 pub demand-of-spec : {M : Type 1} → statement M

@@ -1,6 +1,7 @@
 -- `with_file` meets its contract.
 use native.Mathlib.Omega.{arith}
-use Rattle.model.specs.Layout.{jobOf, entriesOf, colourBy}
+use Rattle.model.specs.Colours.{asColour}
+use Rattle.model.specs.Layout.{jobOf, entriesOf}
 use Rattle.starts.proofs.DemandLaws.{demand-next}
 use borrow.Author.Needs.{needs}
 use Rattle.starts.proofs.demand.with_file.Statement.{statement}
@@ -15,41 +16,33 @@ reader-requires c κs = search needs
 size-requires : tie.Need-size-requires
 size-requires c κs = search needs
 
-crossing-file-requires : tie.Need-crossing-file-requires
-crossing-file-requires c κs = search needs
+crossing-time-requires : tie.Need-crossing-time-requires
+crossing-time-requires c κs = search needs
 
-move-time-requires : tie.Need-move-time-requires
-move-time-requires c κs = search needs
-
-value-if-requires : tie.Need-value-if-requires
-value-if-requires c κs = search needs
+crossing-size-requires : tie.Need-crossing-size-requires
+crossing-size-requires c κs = search needs
 
 finish-requires : tie.Need-finish-requires
 finish-requires c κs = search needs
 
 add-arrives : tie.Need-add-arrives
-add-arrives c =
-    let s = c .before .before .before .before .before .before .before in
-    omega (arith, s .pre .0 .job .moveTime (s .args .k) (s .pre .1 .0))
-
-value-if-requires-2 : tie.Need-value-if-requires-2
-value-if-requires-2 c κs = search needs
+add-arrives c = search needs
 
 add-incoming : tie.Need-add-incoming
 add-incoming c =
-    let s = c .before .before .before .before .before .before .before .before .before in
-    omega (arith, s .pre .0 .job .size (s .args .k) (s .pre .1 .0), s .pre .1 .1 .1 .incoming, s .pre .0 .job .files)
+    let s = c .before .before .before .before .before .before .before in
+    omega (arith, s .pre .1 .1 .1 .incoming, s .pre .0 .job .files)
 
-value-if-requires-3 : tie.Need-value-if-requires-3
-value-if-requires-3 c κs = search needs
+value-if-requires : tie.Need-value-if-requires
+value-if-requires c κs = search needs
 
 add-outputs : tie.Need-add-outputs
 add-outputs c =
-    let s = c .before .before .before .before .before .before .before .before .before .before .before in
+    let s = c .before .before .before .before .before .before .before .before .before in
     omega (arith, s .pre .0 .job .size (s .args .k) (s .pre .1 .0), s .pre .1 .1 .1 .outputs, s .pre .0 .job .files)
 
-value-if-requires-4 : tie.Need-value-if-requires-4
-value-if-requires-4 c κs = search needs
+value-if-requires-2 : tie.Need-value-if-requires-2
+value-if-requires-2 c κs = search needs
 
 greater-requires : tie.Need-greater-requires
 greater-requires c κs = search needs
@@ -59,34 +52,24 @@ greater-requires-2 c κs = search needs
 
 returns : tie.Need-returns
 returns c =
-    let last = c .before .before in
-    let sums = last .before .before .before .before in
-    let times = sums .before .before in
-    let reads = times .before .before in
-    let s = reads .before .before .before .before in
+    let arrival = c .before in
+    let outputs = arrival .before .before .before in
+    let made = outputs .before .before in
+    let size = made .before .before .before in
+    let s = size .before .before .before in
     let a = s .args in
     let old = s .pre .1 .1 .1 in
-    let size = s .pre .0 .job .size (a .k) (s .pre .1 .0) in
-    let time = s .pre .0 .job .moveTime (a .k) (s .pre .1 .0) in (
-      demand-next (a .shape) (jobOf (a .job .now)) (entriesOf (a .schedule .now)) (a .task) (colourBy (a .colour)) (s .pre .1 .0) (s .pre .1 .1 .0)
-          (reads .before .before .before .maker .ensures .0) (reads .before .before .reader .ensures .0) (reads .before .size .ensures)
-          (reads .crossing-file .ensures) (times .before .move-time .ensures) (times .value-if .ensures .0) (sums .before .finish .ensures .0)
-          (sums .value-if2 .ensures .0) (last .before .before .value-if3 .ensures .0) (last .value-if4 .ensures .0)
-          (c .before .greater .ensures) (c .greater2 .ensures),
+    let most = s .pre .0 .job .size (a .k) (s .pre .1 .0) in
+    let time = made .before .before .crossing-time .ensures in
+    let enters = made .before .crossing-size .ensures in (
+      demand-next (a .shape) (jobOf (a .job .now)) (entriesOf (a .schedule .now)) (a .task) (asColour (a .colour)) (s .pre .1 .0) (s .pre .1 .1 .0)
+          (size .before .before .maker .ensures .0) (size .before .reader .ensures .0) (size .size .ensures) (time .0) (enters .0) (made .finish .ensures .0)
+          (outputs .value-if .ensures .0) (arrival .before .value-if2 .ensures .0) (arrival .greater .ensures) (c .greater2 .ensures),
       record {
-        incoming = omega (arith, size, old .incoming, sums .value-if2 .ensures .1, reads .before .size .ensures);
-        outputs = omega (arith, size, old .outputs, last .before .before .value-if3 .ensures .1, reads .before .size .ensures);
-        arrival = omega (
-          arith,
-          time,
-          old .arrival,
-          times .before .move-time .ensures,
-          times .value-if .ensures .1,
-          sums .before .finish .ensures .1,
-          last .value-if4 .ensures .1,
-          c .before .greater .ensures,
-        );
-        longest = omega (arith, time, old .longest, times .before .move-time .ensures, times .value-if .ensures .1, c .greater2 .ensures);
+        incoming = omega (arith, old .incoming, enters .1);
+        outputs = omega (arith, most, old .outputs, outputs .value-if .ensures .1, size .size .ensures);
+        arrival = omega (arith, old .arrival, time .1, made .finish .ensures .1, arrival .before .value-if2 .ensures .1, arrival .greater .ensures);
+        longest = omega (arith, old .longest, time .1, c .greater2 .ensures);
       },
     )
 
@@ -97,16 +80,14 @@ with-file-spec =
     maker-requires
     reader-requires
     size-requires
-    crossing-file-requires
-    move-time-requires
-    value-if-requires
+    crossing-time-requires
+    crossing-size-requires
     finish-requires
     add-arrives
-    value-if-requires-2
     add-incoming
-    value-if-requires-3
+    value-if-requires
     add-outputs
-    value-if-requires-4
+    value-if-requires-2
     greater-requires
     greater-requires-2
     returns)

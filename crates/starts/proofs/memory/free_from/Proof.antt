@@ -1,6 +1,7 @@
 -- `free_from` meets its contract.
 use native.Mathlib.Omega.{arith}
-use Rattle.model.specs.Layout.{jobOf, entriesOf, colourBy}
+use Rattle.model.specs.Colours.{asColour}
+use Rattle.model.specs.Layout.{jobOf, entriesOf}
 use Rattle.starts.proofs.FreeMemoryLaws.{free-found, free-none}
 use borrow.Author.Needs.{needs}
 use Rattle.starts.proofs.memory.free_from.Statement.{statement}
@@ -18,7 +19,7 @@ last-late-requires c κs = search needs
 returns : tie.Need-returns
 returns c =
     let a = c .before .before .before .before .args in (
-      free-found (a .shape) (jobOf (a .job .now)) (entriesOf (a .schedule .now)) (a .need) (colourBy (a .colour))
+      free-found (a .shape) (jobOf (a .job .now)) (entriesOf (a .schedule .now)) (a .need) (asColour (a .colour))
           (c .before .before .before .horizon-of .ensures .0) (c .before .before .fits-at .ensures) (c .before .if1 .taken) (c .last-late .ensures .0),
       omega arith,
     )
@@ -26,7 +27,7 @@ returns c =
 returns-2 : tie.Need-returns-2
 returns-2 c =
     let a = c .before .before .before .args in (
-      free-none (a .shape) (jobOf (a .job .now)) (entriesOf (a .schedule .now)) (a .need) (colourBy (a .colour)) (c .before .before .horizon-of .ensures .0)
+      free-none (a .shape) (jobOf (a .job .now)) (entriesOf (a .schedule .now)) (a .need) (asColour (a .colour)) (c .before .before .horizon-of .ensures .0)
           (c .before .fits-at .ensures) (c .if1 .left),
       omega arith,
     )

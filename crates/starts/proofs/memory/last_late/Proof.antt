@@ -3,7 +3,8 @@ use Prim.Native.Nat.{_≤_, _-_}
 use mathlib.Core.Path.{_≡_, sym}
 use native.Mathlib.Omega.{arith}
 use Rattle.rules.specs.Count.{maxBelow}
-use Rattle.model.specs.Layout.{jobOf, entriesOf, instanceFrom, scheduleFrom, colourBy, lastTick}
+use Rattle.model.specs.Colours.{asColour}
+use Rattle.model.specs.Layout.{jobOf, entriesOf, instanceFrom, scheduleFrom, lastTick}
 use Rattle.model.proofs.StepLaws.{max-none, max-next}
 use Rattle.starts.specs.FreeMemory.{lateEnd}
 use Rattle.starts.proofs.FreeMemoryLaws.{late-total}
@@ -14,7 +15,7 @@ use Rattle.starts.proofs.memory.last_late.Tie as tie
 abbrev Inv-loop : tie.InvT-loop
 Inv-loop shape job schedule colour need most₀ i₀ most i =
     (i ≤ shape .files) × (most ≤ lastTick)
-    × (most ≡ maxBelow i (lateEnd (instanceFrom shape (jobOf job)) (scheduleFrom shape (entriesOf schedule)) (colourBy colour) need))
+    × (most ≡ maxBelow i (lateEnd (instanceFrom shape (jobOf job)) (scheduleFrom shape (entriesOf schedule)) (asColour colour) need))
 
 abbrev μ-loop : tie.MeasureT-loop
 μ-loop shape job schedule colour need most₀ i₀ most i = shape .files - i
@@ -40,7 +41,7 @@ loop-again c =
     omega (
       arith,
       max-next
-          (lateEnd (instanceFrom (a .shape) (jobOf (a .job .now))) (scheduleFrom (a .shape) (entriesOf (a .schedule .now))) (colourBy (a .colour)) (a .need))
+          (lateEnd (instanceFrom (a .shape) (jobOf (a .job .now))) (scheduleFrom (a .shape) (entriesOf (a .schedule .now))) (asColour (a .colour)) (a .need))
           (c .before .before .before .before .loop .i),
     )
 
@@ -49,7 +50,7 @@ returns c =
     let a = c .before .before .before .args in
     omega (
       arith,
-      late-total (a .shape) (jobOf (a .job .now)) (entriesOf (a .schedule .now)) (a .need) (colourBy (a .colour)) {n = c .before .before .loop .i}
+      late-total (a .shape) (jobOf (a .job .now)) (entriesOf (a .schedule .now)) (a .need) (asColour (a .colour)) {n = c .before .before .loop .i}
           (omega arith),
     )
 

@@ -1,6 +1,7 @@
 -- `late_end` meets its contract.
 use native.Mathlib.Omega.{arith}
-use Rattle.model.specs.Layout.{jobOf, entriesOf, colourBy}
+use Rattle.model.specs.Colours.{asColour}
+use Rattle.model.specs.Layout.{jobOf, entriesOf}
 use Rattle.model.specs.Holds.{asHold}
 use Rattle.starts.proofs.FreeMemoryLaws.{end-settles, late-none, late-fits, late-found}
 use borrow.Author.Needs.{needs}
@@ -16,7 +17,7 @@ end-of-requires c κs = search needs
 returns : tie.Need-returns
 returns c =
     let a = c .before .before .before .args in (
-      late-none (a .shape) (jobOf (a .job .now)) (entriesOf (a .schedule .now)) (a .need) (colourBy (a .colour)) (a .k) (c .before .before .hold-of .result)
+      late-none (a .shape) (jobOf (a .job .now)) (entriesOf (a .schedule .now)) (a .need) (asColour (a .colour)) (a .k) (c .before .before .hold-of .result)
           (c .before .before .hold-of .ensures .0) (c .before .end-of .ensures) (c .if1 .taken),
       omega arith,
     )
@@ -30,7 +31,7 @@ fits-at-requires c κs = search needs
 returns-2 : tie.Need-returns-2
 returns-2 c =
     let a = c .before .before .before .before .before .args in (
-      late-fits (a .shape) (jobOf (a .job .now)) (entriesOf (a .schedule .now)) (a .need) (colourBy (a .colour)) (a .k)
+      late-fits (a .shape) (jobOf (a .job .now)) (entriesOf (a .schedule .now)) (a .need) (asColour (a .colour)) (a .k)
           (c .before .before .before .before .hold-of .result) (c .before .before .before .before .hold-of .ensures .0)
           (c .before .before .before .end-of .ensures) (c .before .fits-at .ensures) (c .if2 .taken),
       omega arith,
@@ -39,7 +40,7 @@ returns-2 c =
 returns-3 : tie.Need-returns-3
 returns-3 c =
     let a = c .before .before .before .before .before .args in (
-      late-found (a .shape) (jobOf (a .job .now)) (entriesOf (a .schedule .now)) (a .need) (colourBy (a .colour)) (a .k)
+      late-found (a .shape) (jobOf (a .job .now)) (entriesOf (a .schedule .now)) (a .need) (asColour (a .colour)) (a .k)
           (c .before .before .before .before .hold-of .result) (c .before .before .before .before .hold-of .ensures .0)
           (c .before .before .before .end-of .ensures) (c .before .fits-at .ensures) (c .if2 .left),
       omega (arith, end-settles (asHold (c .before .before .before .before .hold-of .result))),

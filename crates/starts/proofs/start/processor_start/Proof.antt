@@ -11,17 +11,17 @@ use Rattle.starts.proofs.start.processor_start.Statement.{statement}
 use Rattle.starts.proofs.start.processor_start.Tie as tie
 
 abbrev Inv-loop : tie.InvT-loop
-Inv-loop last colour blue first count at least₀ i₀ least i =
+Inv-loop last blue first count at least₀ i₀ least i =
     (1 ≤ i) × (i ≤ count) × (least ≤ lastTick) × (least ≡ minUpTo (pred i) (λ p. getD last (first + p) 0))
 
 abbrev μ-loop : tie.MeasureT-loop
-μ-loop last colour blue first count at least₀ i₀ least i = count - i
+μ-loop last blue first count at least₀ i₀ least i = count - i
 
-select-requires : tie.Need-select-requires Inv-loop μ-loop
-select-requires c κs = search needs
+by-colour-requires : tie.Need-by-colour-requires Inv-loop μ-loop
+by-colour-requires c κs = search needs
 
-select-requires-2 : tie.Need-select-requires-2 Inv-loop μ-loop
-select-requires-2 c κs = search needs
+by-colour-requires-2 : tie.Need-by-colour-requires-2 Inv-loop μ-loop
+by-colour-requires-2 c κs = search needs
 
 mul-least : tie.Need-mul-least Inv-loop μ-loop
 mul-least c = search needs
@@ -34,8 +34,8 @@ loop-holds c =
     let s = c .before .before .before in (
       omega arith,
       omega arith,
-      omega (arith, s .pre .1 (c .before .before .select .result) (omega arith)),
-      least-first (s .args .last .now) (c .before .before .select .result),
+      omega (arith, s .pre .1 (c .before .before .by-colour .result) (omega arith)),
+      least-first (s .args .last .now) (c .before .before .by-colour .result),
     )
 
 add-at : tie.Need-add-at Inv-loop μ-loop
@@ -61,7 +61,7 @@ loop-again c =
     let s = c .before .before .before .before .before .before .before in
     omega (
       arith,
-      least-turn (s .args .last .now) (c .before .before .before .before .before .before .select .result) (c .before .before .before .loop .i) (omega arith),
+      least-turn (s .args .last .now) (c .before .before .before .before .before .before .by-colour .result) (c .before .before .before .loop .i) (omega arith),
     )
 
 returns : tie.Need-returns Inv-loop μ-loop
@@ -69,7 +69,7 @@ returns c =
     let s = c .before .before .before .before .before in
     let a = s .args in (
       λ J L. c .before .loop .inv .3 ∙ least-total (a .shape) J L (a .last .now) (s .pre .0) (a .colour) {i = c .before .loop .i}
-          (c .before .before .before .before .select .ensures .0) (c .before .before .before .select2 .ensures .0) (omega arith),
+          (c .before .before .before .before .by-colour .ensures .0) (c .before .before .before .by-colour2 .ensures .0) (omega arith),
       omega arith,
     )
 
@@ -79,8 +79,8 @@ processor-start-spec =
     (tie.spec
     Inv-loop
     μ-loop
-    select-requires
-    select-requires-2
+    by-colour-requires
+    by-colour-requires-2
     mul-least
     element-copy-out-least
     loop-holds

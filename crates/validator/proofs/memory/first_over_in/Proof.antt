@@ -2,7 +2,8 @@
 use Prim.Native.Nat.{_≤_, _-_}
 use mathlib.Core.Path.{_≡_, sym, _∙_}
 use native.Mathlib.Omega.{arith}
-use Rattle.model.specs.Layout.{jobOf, entriesOf, instanceFrom, scheduleFrom, colourBy}
+use Rattle.model.specs.Colours.{asColour}
+use Rattle.model.specs.Layout.{jobOf, entriesOf, instanceFrom, scheduleFrom}
 use Rattle.claims.specs.Starts.{startIn}
 use Rattle.validator.specs.Least.{leastWhere}
 use Rattle.validator.specs.OverLimit.{overAtStart}
@@ -16,7 +17,7 @@ abbrev Inv-loop : tie.InvT-loop
 Inv-loop shape job schedule colour last first₀ i₀ first i =
     let I = instanceFrom shape (jobOf job) in
     let P = scheduleFrom shape (entriesOf schedule) in
-    (i ≤ shape .files) × (first ≡ leastWhere i last (overAtStart I P (colourBy colour)) (startIn I P (colourBy colour)))
+    (i ≤ shape .files) × (first ≡ leastWhere i last (overAtStart I P (asColour colour)) (startIn I P (asColour colour)))
 
 abbrev μ-loop : tie.MeasureT-loop
 μ-loop shape job schedule colour last first₀ i₀ first i = shape .files - i
@@ -49,12 +50,12 @@ loop-again c =
     let l = t .before .before .before in
     let s = l .before in
     let e = c .before .select .ensures .0 in
-    omega (arith, over-turn (s .pre) (colourBy (s .args .colour)) (s .args .last) (l .loop .i) (t .hold-start .ensures) (o .over-at .ensures) e)
+    omega (arith, over-turn (s .pre) (asColour (s .args .colour)) (s .args .last) (l .loop .i) (t .hold-start .ensures) (o .over-at .ensures) e)
 
 returns : tie.Need-returns Inv-loop μ-loop
 returns c =
     let s = c .before .before .before in
-    c .before .before .loop .inv .1 ∙ over-in-total (s .pre) (colourBy (s .args .colour)) (s .args .last) {n = c .before .before .loop .i} (omega arith)
+    c .before .before .loop .inv .1 ∙ over-in-total (s .pre) (asColour (s .args .colour)) (s .args .last) {n = c .before .before .loop .i} (omega arith)
 
 pub first-over-in-spec : {M : Type 1} → statement M
 first-over-in-spec =
