@@ -1,9 +1,8 @@
 -- The times of a file and its hold, as the code has them and as the rules do.
 use Prim.Native.Nat.{ℕ, _+_, _≤_}
 use mathlib.Core.Path.{_≡_}
-use mathlib.Core.Bool.{Bool, cond}
 use Rattle.rules.specs.Model.{Instance, fileAt, Schedule, startAt, moveAt, releaseAt, makerRun, moved, actualMoveTime, madeAt}
-use Rattle.rules.specs.Residency.{Hold as Held, never, during, since, closedHold, openHold, settles}
+use Rattle.rules.specs.Residency.{Hold as Held, never, during, since, settles}
 use Rattle.model.specs.declared.residency.FileTimes.{FileTimes}
 use Rattle.model.specs.declared.residency.Hold.{Hold}
 use Rattle.model.specs.declared.residency.Hold.the-variants.{Never, During, Since}
@@ -31,11 +30,6 @@ abbrev pub asHold : Hold → Held
 asHold Never = never
 asHold (During from end) = during from end
 asHold (Since from) = since from
-
--- the hold of a file by its times, in its maker's memory (`here`) or the other, its maker `placed` or not and its reader likewise
-abbrev pub holdWhen : Bool → Bool → Bool → FileTimes → Held
-holdWhen placed read here t =
-    cond placed (cond read (closedHold (t .moves) here (t .begun) (t .departs) (t .arrives) (t .released)) (openHold here (t .begun))) never
 
 -- no tick of the hold is later than b
 abbrev pub Within : ℕ → Hold → Type 0

@@ -2,10 +2,10 @@
 ghost use mathlib.Core.Path.{_≡_};
 ghost use Prim.Native.Nat.{_<_, _≤_, max};
 ghost use Rattle.rules.specs.Model.{finishAt, releaseAt};
-ghost use Rattle.rules.specs.Residency.{covers as rules-covers, settles as rules-settles, holdOf, held, horizon};
+ghost use Rattle.rules.specs.Residency.{covers as rules-covers, settles as rules-settles, openHold, closedHold, holdOf, held, horizon};
 ghost use Rattle.model.specs.Colours.{asColour};
 ghost use Rattle.model.specs.Layout.{instanceOf, scheduleOf, InBounds, lastTick, mostHeld};
-ghost use Rattle.model.specs.Holds.{TimesOf, TimesWithin, asHold, holdWhen, Within};
+ghost use Rattle.model.specs.Holds.{TimesOf, TimesWithin, asHold, Within};
 use super::choice::greater;
 use super::choice::value_if;
 use super::colour::Colour;
@@ -119,29 +119,30 @@ pub fn file_times<'a>(
     }
 }
 
-// The hold of a file by its times, in the memory of its maker's colour (`here`) or of the other; `placed` and `read` say
-// whether its maker and its reader are placed.
-fn hold_when(placed: bool, read: bool, here: bool, times: FileTimes) -> Hold
-    ensures { λ r. ⌜ asHold r ≡ holdWhen placed read here times ⌝ }
+// The hold of a file whose reader is not placed, in the memory of its maker's colour (`here`) or of the other.
+fn open_hold(here: bool, begun: u64) -> Hold
+    ensures { λ r. ⌜ asHold r ≡ openHold here begun ⌝ }
+    ensures { λ r. ⌜ Within begun r ⌝ }
+{
+    if here {
+        return Hold::Since(begun);
+    }
+    Hold::Never
+}
+
+// The hold of a file with both its tasks placed, by its times.
+fn closed_hold(here: bool, times: FileTimes) -> Hold
+    ensures { λ r. ⌜ asHold r ≡ closedHold (times .moves) here (times .begun) (times .departs) (times .arrives) (times .released) ⌝ }
     ensures { λ r. ⌜ Within (max (max (times .begun) (times .departs)) (max (times .arrives) (times .released))) r ⌝ }
 {
-    if placed {
-        if read {
-            if times.moves {
-                if here {
-                    return Hold::During(times.begun, times.arrives);
-                }
-                return Hold::During(times.departs, times.released);
-            }
-            if here {
-                return Hold::During(times.begun, times.released);
-            }
-            return Hold::Never;
+    if here {
+        if times.moves {
+            return Hold::During(times.begun, times.arrives);
         }
-        if here {
-            return Hold::Since(times.begun);
-        }
-        return Hold::Never;
+        return Hold::During(times.begun, times.released);
+    }
+    if times.moves {
+        return Hold::During(times.departs, times.released);
     }
     Hold::Never
 }
@@ -162,12 +163,14 @@ pub fn hold_of<'a>(
 {
     let m = layout::maker(shape, job, k) as usize;
     let d = layout::reader(shape, job, k) as usize;
-    hold_when(
-        0 < layout::processor(schedule, m),
-        0 < layout::processor(schedule, d),
-        same_colour(layout::colour_of(shape, schedule, m), colour),
-        file_times(shape, job, schedule, k),
-    )
+    if 0 < layout::processor(schedule, m) {
+        let here = same_colour(layout::colour_of(shape, schedule, m), colour);
+        if 0 < layout::processor(schedule, d) {
+            return closed_hold(here, file_times(shape, job, schedule, k));
+        }
+        return open_hold(here, layout::start(schedule, m));
+    }
+    Hold::Never
 }
 
 // The total held in the memory of the colour at tick t.
