@@ -8,11 +8,6 @@ abbrev pub asColour : Colour → Rules.Colour
 asColour Blue = Rules.blue
 asColour Red = Rules.red
 
--- the code's colour that is the rules' one
-abbrev pub colourFrom : Rules.Colour → Colour
-colourFrom Rules.blue = Blue
-colourFrom Rules.red = Red
-
 -- the colour's own of two numbers
 abbrev pub byColour : Colour → ℕ → ℕ → ℕ
 byColour Blue m n = m

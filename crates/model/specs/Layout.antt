@@ -6,12 +6,13 @@ use lib.Dec.{leb}
 use lib.ListN.{getD, set}
 use Rattle.rules.specs.Count.{listBelow}
 use Rattle.rules.specs.Limits.{maxTasks, maxFiles, processorCounts, memoryLimits, runTimes, moveTimes, fileSizes, ticks}
-use Rattle.rules.specs.Model.{Colour, blue, red, Instance, Schedule, Task, File, Run}
+use Rattle.rules.specs.Model as Rules
+use Rattle.rules.specs.Model.{Instance, Schedule, Task, File, Run}
 use Rattle.rules.specs.Scheduling.{Partial}
 use Rattle.rules.specs.BoardType.{sideFrom}
 use Rattle.rules.specs.Promises.{In}
 use Rattle.model.specs.declared.layout.Shape.{Shape}
-use Rattle.model.specs.declared.colour.Colour.{Colour as Code}
+use Rattle.model.specs.declared.colour.Colour.{Colour}
 use Rattle.model.specs.Colours.{byColour}
 
 -- ---- what stands where
@@ -147,11 +148,11 @@ abbrev pub partialOf : Shape → List ℕ → List ℕ → Partial
 partialOf b schedule last = partialFrom b (entriesOf schedule) last
 
 -- the colour that task i runs on
-abbrev pub colourAt : Shape → Entries → ℕ → Colour
-colourAt b L i = cond (leb (L .processor i) (b .board .blue .processors)) blue red
+abbrev pub colourAt : Shape → Entries → ℕ → Rules.Colour
+colourAt b L i = cond (leb (L .processor i) (b .board .blue .processors)) Rules.blue Rules.red
 
 -- the processors of the colour
-abbrev pub countIn : Shape → Code → ℕ
+abbrev pub countIn : Shape → Colour → ℕ
 countIn b c = byColour c (b .board .blue .processors) (b .board .red .processors)
 
 -- ---- what the code asks of the arrays: every number in its range

@@ -1,11 +1,10 @@
 // Which files move, and what a file costs a task that reads it: all of it by the four cases of `colour`.
-ghost use mathlib.Core.Bool.{cond};
 ghost use mathlib.Core.Path.{_≡_};
 ghost use Prim.Native.Nat.{_<_, _≤_};
 ghost use Rattle.rules.specs.Limits.{moveTimes, fileSizes};
-ghost use Rattle.rules.specs.Model.{sizeAt, moveTimeAt, moved, actualMoveTime};
-ghost use Rattle.rules.specs.Scheduling.{crossing};
+ghost use Rattle.rules.specs.Model.{moved, actualMoveTime};
 ghost use Rattle.model.specs.Colours.{asColour};
+ghost use Rattle.model.specs.Costs.{CostOf};
 ghost use Rattle.model.specs.Layout.{instanceOf, scheduleOf, JobInBounds};
 use super::choice::value_if;
 use super::colour::Colour;
@@ -49,47 +48,33 @@ pub fn moves<'a>(
     0 < actual_move_time(shape, job, schedule, k)
 }
 
-// The move time that file k costs the task on the colour: 0 for a file that it does not read.
-pub fn crossing_time<'a>(
-    shape: Shape,
-    job: &'a [u64; layout::JOB],
-    schedule: &'a [u64; layout::SCHEDULE],
-    k: usize,
-    task: u64,
-    colour: Colour,
-) -> u64
-    requires { ⌜ JobInBounds shape (now job) ⌝ }
-    requires { ⌜ k < shape .files ⌝ }
-    ensures { λ r. ⌜ r ≡ cond (crossing (instanceOf shape (now (job .entry))) (scheduleOf shape (now (schedule .entry))) task (asColour colour) k)
-        (moveTimeAt (instanceOf shape (now (job .entry))) k) 0 ⌝ }
-    ensures { λ r. ⌜ r ≤ moveTimes .most ⌝ }
-{
-    let m = layout::maker(shape, job, k) as usize;
-    let reads = layout::reader(shape, job, k) == task;
-    let from = layout::colour_of(shape, schedule, m);
-    value_if(
-        reads,
-        move_time_between(from, colour, layout::move_time(job, k)),
-    )
+// What a file costs a task: its actual move time, and what the task's colour must newly hold of it.
+pub struct Cost {
+    pub move_time: u64,
+    pub newly_held: u64,
 }
 
-// What the colour must newly hold of file k for the task: 0 for a file that it does not read.
-pub fn crossing_size<'a>(
+// What file k costs the task on the colour: nothing if the task does not read it.
+pub fn cost_for<'a>(
     shape: Shape,
     job: &'a [u64; layout::JOB],
     schedule: &'a [u64; layout::SCHEDULE],
     k: usize,
     task: u64,
     colour: Colour,
-) -> u64
+) -> Cost
     requires { ⌜ JobInBounds shape (now job) ⌝ }
     requires { ⌜ k < shape .files ⌝ }
-    ensures { λ r. ⌜ r ≡ cond (crossing (instanceOf shape (now (job .entry))) (scheduleOf shape (now (schedule .entry))) task (asColour colour) k)
-        (sizeAt (instanceOf shape (now (job .entry))) k) 0 ⌝ }
-    ensures { λ r. ⌜ r ≤ fileSizes .most ⌝ }
+    ensures { λ r. ⌜ CostOf (instanceOf shape (now (job .entry))) (scheduleOf shape (now (schedule .entry))) task (asColour colour) k r ⌝ }
+    ensures { λ r. ⌜ (r .«move_time» ≤ moveTimes .most) × (r .«newly_held» ≤ fileSizes .most) ⌝ }
 {
     let m = layout::maker(shape, job, k) as usize;
     let reads = layout::reader(shape, job, k) == task;
     let from = layout::colour_of(shape, schedule, m);
-    value_if(reads, newly_held(from, colour, layout::size(job, k)))
+    let time = move_time_between(from, colour, layout::move_time(job, k));
+    let size = newly_held(from, colour, layout::size(job, k));
+    Cost {
+        move_time: value_if(reads, time),
+        newly_held: value_if(reads, size),
+    }
 }

@@ -10,7 +10,7 @@ ghost use Rattle.model.specs.Colours.{asColour};
 ghost use Rattle.model.specs.Layout.{entriesOf, runFrom, scheduleLength, instanceOf, scheduleOf, JobInBounds};
 use model::choice::select;
 use model::colour::Colour;
-use model::crossing::crossing_time;
+use model::crossing::cost_for;
 use model::layout;
 use model::layout::Shape;
 
@@ -35,7 +35,8 @@ fn move_with<'a>(
     requires { ⌜ k < shape .files ⌝ }
     ensures { λ r. ⌜ r ≡ moveWith (instanceOf shape (now (job .entry))) (scheduleOf shape (now (schedule .entry))) i (asColour colour) start k ⌝ }
 {
-    let takes = crossing_time(shape, job, schedule, k, i as u64, colour);
+    let cost = cost_for(shape, job, schedule, k, i as u64, colour);
+    let takes = cost.move_time;
     let departs = saturating_sub(start, takes);
     let before = layout::move_start(schedule, k);
     select(0 < takes, departs, before)

@@ -7,6 +7,8 @@ use lib.Dec.{eqb}
 use Rattle.rules.specs.Model.{Colour, Instance, Schedule, fileCount, finishAt, madeAt, sizeAt, moveTimeAt}
 use Rattle.rules.specs.Scheduling.{reads, makes, crossing, arrival, crossingSize, crossingTime, outputSize, inputStart}
 use Rattle.model.specs.declared.layout.Shape.{Shape}
+use Rattle.model.specs.declared.crossing.Cost.{Cost}
+use Rattle.model.specs.Costs.{CostOf}
 use Rattle.model.specs.Layout.{Job, Entries, instanceFrom, scheduleFrom}
 use Rattle.model.proofs.LayoutLaws.{file-count, file-at, size-at, makes-at, reads-at}
 use Rattle.model.proofs.StepLaws.{sum-none, max-none, sum-turn, max-turn}
@@ -30,22 +32,22 @@ module _ (b : Shape) (J : Job) (L : Entries) (i : ℕ) (c : Colour) where
 
   -- file k, from what the accessors read
   module _ {k : ℕ} (h : k < b .files) {d : Demand} (before : DemandBelow I P i c k d)
-      {m j s made takes enters : ℕ} (maker : m ≡ J .maker k) (reader : j ≡ J .reader k) (size : s ≡ J .size k)
-      (time : takes ≡ cond (crossing I P i c k) (moveTimeAt I k) 0) (entering : enters ≡ cond (crossing I P i c k) (sizeAt I k) 0)
+      {m j s made : ℕ} {x : Cost} (maker : m ≡ J .maker k) (reader : j ≡ J .reader k) (size : s ≡ J .size k) (cost : CostOf I P i c k x)
       (finish : made ≡ finishAt I P m) where
-    arrival-at : arrival I P i c k ≡ made + takes
+    arrival-at : arrival I P i c k ≡ made + x .«move_time»
     arrival-at =
         let g : made ≡ finishAt I P (J .maker k) = finish ∙ ap (λ m. finishAt I P m) maker in
         let q : madeAt I P k ≡ finishAt I P (J .maker k) = rw (file-at b J k h) in
-        omega arith
+        omega (arith, cost .moveTime)
 
-    pub demand-next : {y z u v : ℕ} → y ≡ cond (eqb m i) s 0 → z ≡ cond (eqb j i) (made + takes) 0 → u ≡ max (d .arrival) z → v ≡ max (d .longest) takes
-        → DemandBelow I P i c (k + 1) (record { incoming = d .incoming + enters; outputs = d .outputs + y; arrival = u; longest = v })
+    pub demand-next : {y z u v : ℕ} → y ≡ cond (eqb m i) s 0 → z ≡ cond (eqb j i) (made + x .«move_time») 0 → u ≡ max (d .arrival) z
+        → v ≡ max (d .longest) (x .«move_time»)
+        → DemandBelow I P i c (k + 1) (record { incoming = d .incoming + x .«newly_held»; outputs = d .outputs + y; arrival = u; longest = v })
     demand-next ey ez eu ev = record {
-      incoming = omega (arith, before .incoming, sum-turn k (crossing I P i c) (sizeAt I) entering refl refl);
+      incoming = omega (arith, before .incoming, sum-turn k (crossing I P i c) (sizeAt I) (cost .newlyHeld) refl refl);
       outputs = omega (arith, before .outputs, sum-turn k (makes I i) (sizeAt I) ey (makes-at b J h i maker) (size-at b J k h ∙ sym size));
       arrival = omega (arith, before .arrival, max-turn k (reads I i) (arrival I P i c) ez (reads-at b J h i reader) arrival-at);
-      longest = omega (arith, before .longest, max-turn k (crossing I P i c) (moveTimeAt I) time refl refl);
+      longest = omega (arith, before .longest, max-turn k (crossing I P i c) (moveTimeAt I) (cost .moveTime) refl refl);
     }
 
   pub demand-all : {n : ℕ} {d : Demand} → DemandBelow I P i c n d → n ≡ b .files → DemandOf I P i c d

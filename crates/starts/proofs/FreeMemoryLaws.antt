@@ -7,14 +7,15 @@ use native.Mathlib.Numerals.{sub-one}
 use native.Mathlib.Omega.{arith}
 use lib.Dec.{leb}
 use Rattle.rules.specs.Count.{maxBelow}
-use Rattle.rules.specs.Model.{Colour, Instance, Schedule}
+use Rattle.rules.specs.Model as Rules
+use Rattle.rules.specs.Model.{Instance, Schedule}
 use Rattle.rules.specs.Residency.{Hold as Held, never, during, since, settles, holdOf, held, horizon}
 use Rattle.rules.specs.Scheduling.{fits, freeFrom}
 use Rattle.rules.proofs.Tests.{cond-zero}
 use Rattle.rules.proofs.ResidencyLaws.{free-nowhere}
 use Rattle.model.specs.declared.layout.Shape.{Shape}
 use Rattle.model.specs.declared.residency.Hold.{Hold}
-use Rattle.model.specs.declared.colour.Colour.{Colour as Code}
+use Rattle.model.specs.declared.colour.Colour.{Colour}
 use Rattle.model.specs.Colours.{asColour, byColour}
 use Rattle.model.specs.Layout.{Job, Entries, instanceFrom, scheduleFrom}
 use Rattle.model.specs.Holds.{asHold}
@@ -35,12 +36,12 @@ module _ (b : Shape) (J : Job) (L : Entries) (need : ℕ) where
   abbrev P : Schedule
   P = scheduleFrom b L
 
-  pub fits-at : (c : Code) (t : ℕ) {v l : ℕ} → v ≡ held I P (asColour c) t → l ≡ byColour c (b .board .blue .limit) (b .board .red .limit)
+  pub fits-at : (c : Colour) (t : ℕ) {v l : ℕ} → v ≡ held I P (asColour c) t → l ≡ byColour c (b .board .blue .limit) (b .board .red .limit)
       → leb (v + need) l ≡ fits I P (asColour c) need t
   unfolding fits
   fits-at c t e g = rw (e, g, limit-of b J c)
 
-  module _ (c : Colour) where
+  module _ (c : Rules.Colour) where
     -- one file
     module _ (k : ℕ) (x : Hold) {e : ℕ} (g : asHold x ≡ holdOf I P c k) (q : e ≡ endOf (asHold x)) where
       same-end : endOf (holdOf I P c k) ≡ e

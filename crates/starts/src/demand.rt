@@ -7,8 +7,7 @@ ghost use Rattle.starts.specs.Demands.{DemandBelow, DemandOf, DemandBoun
 use model::choice::greater;
 use model::choice::value_if;
 use model::colour::Colour;
-use model::crossing::crossing_size;
-use model::crossing::crossing_time;
+use model::crossing::cost_for;
 use model::layout;
 use model::layout::Shape;
 use model::residency::finish;
@@ -42,8 +41,9 @@ fn with_file<'a>(
     let maker = layout::maker(shape, job, k);
     let reader = layout::reader(shape, job, k);
     let size = layout::size(job, k);
-    let time = crossing_time(shape, job, schedule, k, task, colour);
-    let enters = crossing_size(shape, job, schedule, k, task, colour);
+    let cost = cost_for(shape, job, schedule, k, task, colour);
+    let time = cost.move_time;
+    let enters = cost.newly_held;
     let arrives = finish(shape, job, schedule, maker as usize) + time;
     let incoming = demand.incoming + enters;
     let outputs = demand.outputs + value_if(maker == task, size);

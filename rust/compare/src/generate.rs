@@ -288,7 +288,7 @@ pub fn limited(r: &mut Random, sheet: &Sheet, t: &Table) -> Sheet {
     let at = span(sheet, t);
     let last = sheet.files.iter().filter(|f| {
         let (p, start) = t.runs[f.reader].unwrap();
-        sheet.colour(p) == c && start == at
+        sheet.colour(p) as usize == c && start == at
     });
     let needed = peaks(sheet, t);
     match r.below(6) {

@@ -1,5 +1,6 @@
-//! An independent implementation of document 01 with Order 1, for tests, and texts by chance to compare it on.
+//! An independent implementation of document 01 with Orders 1 and 2, for tests, and texts by chance to compare it on.
 
+pub mod colours;
 pub mod generate;
 pub mod reference;
 pub mod relays;

@@ -1,10 +1,12 @@
-//! Compares the proved library with an implementation of its own of document 01 with Order 1, on sound and damaged texts from a
-//! fixed seed. Prints how often each answer was reached, and what was answered to timetables with relays; ends with an error at the
-//! first difference, where an answer was never reached, or where relays were marked as the rules do not allow.
+//! Compares the proved library with an implementation of its own of document 01 with Orders 1 and 2, on sound and damaged texts from
+//! a fixed seed, and short timetables also with what the memories hold at each tick. Prints how often each answer was reached, what was
+//! answered to timetables with relays, and how often each of the four cases of maker and reader was met. Ends with an error at the first
+//! difference, where an answer or a case was never reached, or where relays were marked as the rules do not allow.
 
+use compare::colours;
 use compare::generate::{self, Random};
 use compare::reference::{self, Sheet};
-use compare::relays::{has_relays, Counts};
+use compare::relays::{self, has_relays};
 use frames::{Planner, Verdict};
 use std::collections::{BTreeMap, BTreeSet};
 
@@ -15,7 +17,8 @@ type Seen = BTreeMap<u64, (u64, BTreeSet<u64>)>;
 struct Tally {
     marks: Seen,
     plans: Seen,
-    relays: Counts,
+    relays: relays::Counts,
+    colours: colours::Counts,
     cases: u64,
 }
 
@@ -47,6 +50,13 @@ impl Tally {
         seen.1.insert(got[1]);
         if matches!(got[0], 0 | 15..=18) {
             self.relays.marked(sheet, paper, got[0], got[1]);
+            if let Err(difference) = self.colours.marked(sheet, paper, got) {
+                panic!(
+                    "{difference}\nsheet:\n{}\npaper:\n{}",
+                    show(sheet),
+                    show(paper)
+                );
+            }
         }
     }
 
@@ -103,6 +113,7 @@ impl Tally {
                 }
             }
             self.relays.planned(sheet, &want);
+            self.colours.planned(sheet, &want);
         }
         paper
     }
@@ -246,11 +257,12 @@ fn main() {
     );
     ok &= t.print("planner", &t.plans, &[0, 1, 2, 3, 4, 21, 31]);
     t.relays.print();
+    t.colours.print();
     println!("{} cases, no difference", t.cases);
     if !ok {
         eprintln!("an answer was never reached");
     }
-    let faults = t.relays.faults();
+    let faults = [t.relays.faults(), t.colours.faults()].concat();
     for fault in &faults {
         eprintln!("{fault}");
     }

@@ -1,11 +1,25 @@
-//! An implementation of document 01 with Order 1 for tests, written from the documents in another way than the proved code:
+//! An implementation of document 01 with Orders 1 and 2 for tests, written from the documents in another way than the proved code:
 //! texts are split into words, memory is a list of changes sorted by tick, weights are by recursion.
+//!
+//! What a planner tries and places, and the marker's 16, go by Order 2's four cases of maker and reader. Which move lines are due and
+//! what a memory holds go by whether the two colours differ (`moves`), so that the two ways of saying it meet in the comparison.
 
 use std::collections::BTreeMap;
+use Colour::{Blue, Red};
 
 pub const MAX_TEXT: usize = 32_768;
 
 pub type Refused = (u64, u64);
+
+/// The colour of a processor and its memory; blue is before red.
+#[derive(Clone, Copy, Debug, PartialEq, Eq, PartialOrd, Ord)]
+pub enum Colour {
+    Blue,
+    Red,
+}
+
+/// How often something was met, by the colours of maker and reader.
+pub type ByCase = [[u64; 2]; 2];
 
 #[derive(Clone, Debug)]
 pub struct File {
@@ -28,6 +42,7 @@ pub struct Sheet {
 pub struct Table {
     /// processor from 1, and start; None where not placed
     pub runs: Vec<Option<(i64, i64)>>,
+    /// start of each file's move; of no meaning for an unmoved file
     pub moves: Vec<i64>,
 }
 
@@ -162,12 +177,16 @@ pub fn read_sheet(text: &[u8]) -> Result<Sheet, Refused> {
 }
 
 impl Sheet {
-    pub fn colour(&self, processor: i64) -> usize {
+    pub fn colour(&self, processor: i64) -> Colour {
         if processor <= self.processors[0] {
-            0
+            Blue
         } else {
-            1
+            Red
         }
+    }
+
+    pub fn run_time(&self, i: usize, colour: Colour) -> i64 {
+        self.tasks[i][colour as usize]
     }
 }
 
@@ -239,20 +258,54 @@ fn run(table: &Table, i: usize) -> (i64, i64) {
     table.runs[i].unwrap()
 }
 
+/// The colour of a placed task.
+fn task_colour(sheet: &Sheet, table: &Table, i: usize) -> Colour {
+    sheet.colour(run(table, i).0)
+}
+
+/// The colours of a file's maker and reader.
+pub fn colours(sheet: &Sheet, table: &Table, f: &File) -> (Colour, Colour) {
+    (
+        task_colour(sheet, table, f.maker),
+        task_colour(sheet, table, f.reader),
+    )
+}
+
+/// The actual move time of a file (document 001, section 3.1), by the colours of its maker and its reader.
+fn actual_move_time(maker: Colour, reader: Colour, f: &File) -> i64 {
+    match (maker, reader) {
+        (Blue, Blue) => 0,
+        (Red, Red) => 0,
+        (Blue, Red) => f.time,
+        (Red, Blue) => f.time,
+    }
+}
+
+/// What the reader's colour must newly hold of a file.
+fn newly_held(maker: Colour, reader: Colour, f: &File) -> i64 {
+    match (maker, reader) {
+        (Blue, Blue) => 0,
+        (Red, Red) => 0,
+        (Blue, Red) => f.size,
+        (Red, Blue) => f.size,
+    }
+}
+
 /// Whether a file's tasks run in memories of different colour.
 pub fn moves(sheet: &Sheet, table: &Table, f: &File) -> bool {
-    sheet.colour(run(table, f.maker).0) != sheet.colour(run(table, f.reader).0)
+    let (maker, reader) = colours(sheet, table, f);
+    maker != reader
 }
 
 pub fn finish(sheet: &Sheet, table: &Table, i: usize) -> i64 {
     let (p, s) = run(table, i);
-    s + sheet.tasks[i][sheet.colour(p)]
+    s + sheet.run_time(i, sheet.colour(p))
 }
 
 /// Until when the inputs of a run are held in its memory: its finish; until s + 1 for a run of time 0 at s.
-fn release(sheet: &Sheet, table: &Table, i: usize) -> i64 {
+pub fn release(sheet: &Sheet, table: &Table, i: usize) -> i64 {
     let (p, s) = run(table, i);
-    match sheet.tasks[i][sheet.colour(p)] {
+    match sheet.run_time(i, sheet.colour(p)) {
         0 => s + 1,
         time => s + time,
     }
@@ -264,7 +317,7 @@ fn share(sheet: &Sheet, table: &Table, i: usize, j: usize) -> bool {
 }
 
 /// The holds of one memory: size, first tick, and the tick at which it ends, if it does.
-fn holds(sheet: &Sheet, table: &Table, colour: usize) -> Vec<(i64, i64, Option<i64>)> {
+fn holds(sheet: &Sheet, table: &Table, colour: Colour) -> Vec<(i64, i64, Option<i64>)> {
     let mut all = vec![];
     for (k, f) in sheet.files.iter().enumerate() {
         let Some((p, s)) = table.runs[f.maker] else {
@@ -292,7 +345,7 @@ fn holds(sheet: &Sheet, table: &Table, colour: usize) -> Vec<(i64, i64, Option<i
 }
 
 /// What a memory holds from each tick of change on, by tick.
-fn profile(sheet: &Sheet, table: &Table, colour: usize) -> Vec<(i64, i64)> {
+fn profile(sheet: &Sheet, table: &Table, colour: Colour) -> Vec<(i64, i64)> {
     let mut change: BTreeMap<i64, i64> = BTreeMap::new();
     change.insert(0, 0);
     for (size, from, end) in holds(sheet, table, colour) {
@@ -314,7 +367,7 @@ fn profile(sheet: &Sheet, table: &Table, colour: usize) -> Vec<(i64, i64)> {
 }
 
 pub fn peaks(sheet: &Sheet, table: &Table) -> [i64; 2] {
-    [0, 1].map(|c| profile(sheet, table, c).iter().map(|p| p.1).max().unwrap())
+    [Blue, Red].map(|c| profile(sheet, table, c).iter().map(|p| p.1).max().unwrap())
 }
 
 pub fn span(sheet: &Sheet, table: &Table) -> i64 {
@@ -322,6 +375,16 @@ pub fn span(sheet: &Sheet, table: &Table) -> i64 {
         .map(|i| finish(sheet, table, i))
         .max()
         .unwrap()
+}
+
+/// Whether a file's move or its reader starts early, a cause of 16; an unmoved file arrives when it is made.
+pub fn early(sheet: &Sheet, table: &Table, k: usize) -> bool {
+    let f = &sheet.files[k];
+    let (maker, reader) = colours(sheet, table, f);
+    let made = finish(sheet, table, f.maker);
+    let time = actual_move_time(maker, reader, f);
+    let t = if time == 0 { made } else { table.moves[k] };
+    t < made || run(table, f.reader).1 < t + time
 }
 
 /// 15 to 17: the first fault of a complete timetable.
@@ -338,29 +401,16 @@ pub fn fault(sheet: &Sheet, table: &Table) -> Option<Refused> {
     if let Some(i) = shared.iter().min() {
         return Some((15, *i as u64 + 1));
     }
-    let mut late = vec![];
-    for (k, f) in sheet.files.iter().enumerate() {
-        let made = finish(sheet, table, f.maker);
-        let wanted = run(table, f.reader).1;
-        let t = table.moves[k];
-        let ok = if moves(sheet, table, f) {
-            made <= t && t + f.time <= wanted
-        } else {
-            made <= wanted
-        };
-        if !ok {
-            late.push(f.reader);
-        }
+    let late = (0..sheet.files.len()).filter(|k| early(sheet, table, *k));
+    if let Some(j) = late.map(|k| sheet.files[k].reader).min() {
+        return Some((16, j as u64 + 1));
     }
-    if let Some(j) = late.iter().min() {
-        return Some((16, *j as u64 + 1));
-    }
-    let over: Vec<i64> = [0, 1]
+    let over: Vec<i64> = [Blue, Red]
         .iter()
         .flat_map(|c| {
             profile(sheet, table, *c)
                 .into_iter()
-                .filter(|p| p.1 > sheet.limits[*c])
+                .filter(|p| p.1 > sheet.limits[*c as usize])
                 .map(|p| p.0)
                 .collect::<Vec<_>>()
         })
@@ -412,19 +462,19 @@ struct State<'a> {
     table: Table,
     last: Vec<i64>,
     trials: u64,
+    met: ByCase,
 }
 
-impl State<'_> {
-    fn slots(&self, colour: usize) -> std::ops::Range<usize> {
+impl<'a> State<'a> {
+    fn slots(&self, colour: Colour) -> std::ops::Range<usize> {
         let blue = self.sheet.processors[0] as usize;
-        if colour == 0 {
-            0..blue
-        } else {
-            blue..self.last.len()
+        match colour {
+            Blue => 0..blue,
+            Red => blue..self.last.len(),
         }
     }
 
-    fn inputs(&self, i: usize) -> Vec<(usize, &File)> {
+    fn inputs(&self, i: usize) -> Vec<(usize, &'a File)> {
         self.sheet
             .files
             .iter()
@@ -441,18 +491,11 @@ impl State<'_> {
                 .all(|(_, f)| self.table.runs[f.maker].is_some())
     }
 
-    fn crossing(&self, i: usize, colour: usize) -> Vec<(usize, &File)> {
-        self.inputs(i)
-            .into_iter()
-            .filter(|(_, f)| self.sheet.colour(run(&self.table, f.maker).0) != colour)
-            .collect()
-    }
-
     /// The first tick from which on the memory always has `need` free.
-    fn free_from(&self, colour: usize, need: i64) -> Option<i64> {
+    fn free_from(&self, colour: Colour, need: i64) -> Option<i64> {
         let mut first = None;
         for (t, held) in profile(self.sheet, &self.table, colour).into_iter().rev() {
-            if held + need > self.sheet.limits[colour] {
+            if held + need > self.sheet.limits[colour as usize] {
                 break;
             }
             first = Some(t);
@@ -461,10 +504,17 @@ impl State<'_> {
     }
 
     /// The earliest start of a task on a colour.
-    fn start(&mut self, i: usize, colour: usize) -> Option<i64> {
+    fn start(&mut self, i: usize, colour: Colour) -> Option<i64> {
         self.trials += 1;
-        let crossing = self.crossing(i, colour);
-        let moved: i64 = crossing.iter().map(|(_, f)| f.size).sum();
+        let (mut arrived, mut longest, mut newly) = (0, 0, 0);
+        for (_, f) in self.inputs(i) {
+            let maker = task_colour(self.sheet, &self.table, f.maker);
+            let time = actual_move_time(maker, colour, f);
+            arrived = arrived.max(finish(self.sheet, &self.table, f.maker) + time);
+            longest = longest.max(time);
+            newly += newly_held(maker, colour, f);
+            self.met[maker as usize][colour as usize] += 1;
+        }
         let made: i64 = self
             .sheet
             .files
@@ -472,38 +522,24 @@ impl State<'_> {
             .filter(|f| f.maker == i)
             .map(|f| f.size)
             .sum();
-        let longest = crossing.iter().map(|(_, f)| f.time).max().unwrap_or(0);
         let processor = self.slots(colour).map(|p| self.last[p]).min().unwrap();
-        let arrived = self
-            .inputs(i)
-            .iter()
-            .map(|(k, f)| {
-                finish(self.sheet, &self.table, f.maker)
-                    + if crossing.iter().any(|(c, _)| c == k) {
-                        f.time
-                    } else {
-                        0
-                    }
-            })
-            .max()
-            .unwrap_or(0);
-        let running = self.free_from(colour, moved + made)?;
-        let moving = self.free_from(colour, moved)? + longest;
+        let running = self.free_from(colour, newly + made)?;
+        let moving = self.free_from(colour, newly)? + longest;
         Some(processor.max(arrived).max(running).max(moving))
     }
 
     /// Both colours: finish, colour and start of the better.
-    fn best(&mut self, i: usize) -> Option<(i64, usize, i64)> {
-        [0, 1]
+    fn best(&mut self, i: usize) -> Option<(i64, Colour, i64)> {
+        [Blue, Red]
             .iter()
             .filter_map(|c| {
                 self.start(i, *c)
-                    .map(|s| (s + self.sheet.tasks[i][*c], *c, s))
+                    .map(|s| (s + self.sheet.run_time(i, *c), *c, s))
             })
             .min_by_key(|b| (b.0, b.1))
     }
 
-    fn place(&mut self, i: usize, colour: usize, start: i64) {
+    fn place(&mut self, i: usize, colour: Colour, start: i64) {
         let latest = self
             .slots(colour)
             .filter(|p| self.last[*p] <= start)
@@ -514,16 +550,12 @@ impl State<'_> {
             .slots(colour)
             .find(|p| self.last[*p] == latest)
             .unwrap();
-        let starts: Vec<(usize, i64)> = self
-            .crossing(i, colour)
-            .iter()
-            .map(|(k, f)| (*k, start - f.time))
-            .collect();
-        for (k, t) in starts {
-            self.table.moves[k] = t;
+        for (k, f) in self.inputs(i) {
+            let maker = task_colour(self.sheet, &self.table, f.maker);
+            self.table.moves[k] = start - actual_move_time(maker, colour, f);
         }
         self.table.runs[i] = Some((slot as i64 + 1, start));
-        self.last[slot] = start + self.sheet.tasks[i][colour];
+        self.last[slot] = start + self.sheet.run_time(i, colour);
     }
 }
 
@@ -547,20 +579,23 @@ pub struct Planned {
     pub number: u64,
     pub place: u64,
     pub trials: u64,
+    /// the files read in the trials, by the colours of their maker and of the trial
+    pub met: ByCase,
     pub text: Vec<u8>,
 }
 
 /// A planner on a sheet: MemHEFT, or MemMinMin. 31 is left to the caller.
 pub fn plan(heft: bool, text: &[u8]) -> Planned {
-    let refused = |r: Refused, trials| Planned {
+    let refused = |r: Refused, trials, met| Planned {
         number: r.0,
         place: r.1,
         trials,
+        met,
         text: vec![],
     };
     let sheet = match read_sheet(text) {
         Ok(s) => s,
-        Err(r) => return refused(r, 0),
+        Err(r) => return refused(r, 0, ByCase::default()),
     };
     let n = sheet.tasks.len();
     let mut known = vec![None; n];
@@ -574,9 +609,10 @@ pub fn plan(heft: bool, text: &[u8]) -> Planned {
         },
         last: vec![0; (sheet.processors[0] + sheet.processors[1]) as usize],
         trials: 0,
+        met: ByCase::default(),
     };
     for placed in 0..n {
-        let mut choice: Option<(i64, usize, usize, i64)> = None;
+        let mut choice: Option<(i64, usize, Colour, i64)> = None;
         if heft {
             for i in &list {
                 if s.ready(*i) {
@@ -597,7 +633,7 @@ pub fn plan(heft: bool, text: &[u8]) -> Planned {
         }
         match choice {
             Some((_, i, c, t)) => s.place(i, c, t),
-            None => return refused((21, placed as u64), s.trials),
+            None => return refused((21, placed as u64), s.trials, s.met),
         }
     }
     let text = write_table(&sheet, &s.table).into_bytes();
@@ -605,6 +641,7 @@ pub fn plan(heft: bool, text: &[u8]) -> Planned {
         number: 0,
         place: text.len() as u64,
         trials: s.trials,
+        met: s.met,
         text,
     }
 }

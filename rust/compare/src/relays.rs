@@ -25,11 +25,11 @@ pub fn has_relays(sheet: &Sheet) -> bool {
 
 /// Processor, start and run time of each task.
 fn runs(sheet: &Sheet, table: &Table) -> Vec<(i64, i64, i64)> {
-    let placed = table.runs.iter().zip(&sheet.tasks);
+    let placed = table.runs.iter().enumerate();
     placed
-        .map(|(run, times)| {
+        .map(|(i, run)| {
             let (p, s) = run.unwrap();
-            (p, s, times[sheet.colour(p)])
+            (p, s, sheet.run_time(i, sheet.colour(p)))
         })
         .collect()
 }
@@ -80,7 +80,7 @@ fn held_at_span(sheet: &Sheet, table: &Table) -> (i64, [i64; 2]) {
     for f in &sheet.files {
         let (p, s, time) = runs[f.reader];
         if (s, time) == (end, 0) {
-            held[sheet.colour(p)] += f.size;
+            held[sheet.colour(p) as usize] += f.size;
         }
     }
     (end, held)

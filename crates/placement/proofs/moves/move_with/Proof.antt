@@ -7,8 +7,8 @@ use borrow.Author.Needs.{needs}
 use Rattle.placement.proofs.moves.move_with.Statement.{statement}
 use Rattle.placement.proofs.moves.move_with.Tie as tie
 
-crossing-time-requires : tie.Need-crossing-time-requires
-crossing-time-requires c κs = search needs
+cost-for-requires : tie.Need-cost-for-requires
+cost-for-requires c κs = search needs
 
 saturating-sub-requires : tie.Need-saturating-sub-requires
 saturating-sub-requires c κs = search needs
@@ -24,13 +24,13 @@ returns c =
     let s = c .before .before .before .before in
     c .select .ensures .0
     ∙ move-from (s .pre .0) (entriesOf (s .args .schedule .now)) (s .pre .1) (s .args .i) (asColour (s .args .colour)) (s .args .start)
-    (c .before .before .before .crossing-time .ensures .0) (c .before .before .saturating-sub .ensures) (c .before .move-start .ensures)
+    (c .before .before .before .cost-for .ensures .0 .moveTime) (c .before .before .saturating-sub .ensures) (c .before .move-start .ensures)
 
 pub move-with-spec : {M : Type 1} → statement M
 move-with-spec =
     tie.close
     (tie.spec
-    crossing-time-requires
+    cost-for-requires
     saturating-sub-requires
     move-start-requires
     select-requires

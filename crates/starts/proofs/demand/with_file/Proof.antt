@@ -16,11 +16,8 @@ reader-requires c κs = search needs
 size-requires : tie.Need-size-requires
 size-requires c κs = search needs
 
-crossing-time-requires : tie.Need-crossing-time-requires
-crossing-time-requires c κs = search needs
-
-crossing-size-requires : tie.Need-crossing-size-requires
-crossing-size-requires c κs = search needs
+cost-for-requires : tie.Need-cost-for-requires
+cost-for-requires c κs = search needs
 
 finish-requires : tie.Need-finish-requires
 finish-requires c κs = search needs
@@ -30,7 +27,7 @@ add-arrives c = search needs
 
 add-incoming : tie.Need-add-incoming
 add-incoming c =
-    let s = c .before .before .before .before .before .before .before in
+    let s = c .before .before .before .before .before .before in
     omega (arith, s .pre .1 .1 .1 .incoming, s .pre .0 .job .files)
 
 value-if-requires : tie.Need-value-if-requires
@@ -38,7 +35,7 @@ value-if-requires c κs = search needs
 
 add-outputs : tie.Need-add-outputs
 add-outputs c =
-    let s = c .before .before .before .before .before .before .before .before .before in
+    let s = c .before .before .before .before .before .before .before .before in
     omega (arith, s .pre .0 .job .size (s .args .k) (s .pre .1 .0), s .pre .1 .1 .1 .outputs, s .pre .0 .job .files)
 
 value-if-requires-2 : tie.Need-value-if-requires-2
@@ -55,21 +52,20 @@ returns c =
     let arrival = c .before in
     let outputs = arrival .before .before .before in
     let made = outputs .before .before in
-    let size = made .before .before .before in
+    let size = made .before .before in
     let s = size .before .before .before in
     let a = s .args in
     let old = s .pre .1 .1 .1 in
     let most = s .pre .0 .job .size (a .k) (s .pre .1 .0) in
-    let time = made .before .before .crossing-time .ensures in
-    let enters = made .before .crossing-size .ensures in (
+    let cost = made .before .cost-for .ensures in (
       demand-next (a .shape) (jobOf (a .job .now)) (entriesOf (a .schedule .now)) (a .task) (asColour (a .colour)) (s .pre .1 .0) (s .pre .1 .1 .0)
-          (size .before .before .maker .ensures .0) (size .before .reader .ensures .0) (size .size .ensures) (time .0) (enters .0) (made .finish .ensures .0)
+          (size .before .before .maker .ensures .0) (size .before .reader .ensures .0) (size .size .ensures) (cost .0) (made .finish .ensures .0)
           (outputs .value-if .ensures .0) (arrival .before .value-if2 .ensures .0) (arrival .greater .ensures) (c .greater2 .ensures),
       record {
-        incoming = omega (arith, old .incoming, enters .1);
+        incoming = omega (arith, old .incoming, cost .1);
         outputs = omega (arith, most, old .outputs, outputs .value-if .ensures .1, size .size .ensures);
-        arrival = omega (arith, old .arrival, time .1, made .finish .ensures .1, arrival .before .value-if2 .ensures .1, arrival .greater .ensures);
-        longest = omega (arith, old .longest, time .1, c .greater2 .ensures);
+        arrival = omega (arith, old .arrival, cost .1, made .finish .ensures .1, arrival .before .value-if2 .ensures .1, arrival .greater .ensures);
+        longest = omega (arith, old .longest, cost .1, c .greater2 .ensures);
       },
     )
 
@@ -80,8 +76,7 @@ with-file-spec =
     maker-requires
     reader-requires
     size-requires
-    crossing-time-requires
-    crossing-size-requires
+    cost-for-requires
     finish-requires
     add-arrives
     add-incoming

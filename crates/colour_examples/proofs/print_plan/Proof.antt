@@ -1,0 +1,38 @@
+-- `print_plan` lends a buffer that holds the whole timetable on success.
+use native.Mathlib.Omega.{arith}
+use Rattle.rules.specs.Scheduling.{memHeft}
+use Rattle.console.proofs.LongEnoughLaws.{long-enough}
+use borrow.Author.Needs.{needs}
+use Rattle.colour_examples.proofs.print_plan.Statement.{statement}
+use Rattle.colour_examples.proofs.print_plan.Tie as tie
+
+large-buffer-requires : tie.Need-large-buffer-requires
+large-buffer-requires c κs = search needs
+
+slice-aggregate-mem-heft : tie.Need-slice-aggregate-mem-heft
+slice-aggregate-mem-heft c = search needs
+
+mem-heft-requires : tie.Need-mem-heft-requires
+mem-heft-requires c κs = search needs
+
+slice-aggregate-print-answer : tie.Need-slice-aggregate-print-answer
+slice-aggregate-print-answer c = search needs
+
+print-answer-requires : tie.Need-print-answer-requires
+print-answer-requires c κs =
+    let m = c .before .before .mem-heft in
+    long-enough memHeft _ _ (m .last .1 .0) (m .result) (omega arith) (m .kept .1 .0) (m .ensures .1)
+
+returns : tie.Need-returns
+returns c = search needs
+
+pub print-plan-spec : {M : Type 1} → statement M
+print-plan-spec =
+    tie.close
+    (tie.spec
+    large-buffer-requires
+    slice-aggregate-mem-heft
+    mem-heft-requires
+    slice-aggregate-print-answer
+    print-answer-requires
+    returns)
