@@ -1,7 +1,7 @@
 -- What a file costs between two colours, from what the accessors read.
 use Prim.Native.Nat.{ℕ, _<_}
 use mathlib.Core.Bool.{Bool, not, cond, _&&_}
-use mathlib.Core.Path.{_≡_, sym, ap, _∙_}
+use mathlib.Core.Path.{_≡_, sym, _∙_}
 use native.Mathlib.Omega.{arith}
 use lib.Dec.{ltb, eqb}
 use Rattle.rules.specs.Model.{Colour, sameColour, moveTimeBetween, Instance, Schedule, moveTimeAt, makerColour, readerColour, moved, actualMoveTime}

@@ -7,7 +7,7 @@ use lib.Dec.{eqb}
 use borrow.Author.Tests.{le-leb, lt-leb}
 use lib.ListN.{getD}
 use Rattle.rules.specs.Model.{blue, red, Instance, Task, fileAt, fileCount, taskAt, taskCount, limitOf, sideOf, timeOn, sizeAt, moveTimeAt}
-use Rattle.rules.specs.Model.{Schedule, runAt, moveAt, colourOf, finishAt}
+use Rattle.rules.specs.Model.{runAt, moveAt, colourOf, finishAt}
 use Rattle.rules.specs.Scheduling.{reads, makes, finishOn}
 use Rattle.rules.specs.Limits.{processorCounts, runTimes}
 use Rattle.rules.specs.Promises.{In, WellFormed}
@@ -16,7 +16,7 @@ use Rattle.model.specs.declared.layout.Shape.{Shape}
 use Rattle.model.specs.declared.colour.Colour.{Colour}
 use Rattle.model.specs.declared.colour.Colour.the-variants.{Blue, Red}
 use Rattle.model.specs.Colours.{asColour, byColour}
-use Rattle.model.specs.Layout.{Job, Entries, taskFrom, fileFrom, runFrom, instanceFrom, scheduleFrom, partialFrom, colourAt, countIn, JobBounds, Bounds}
+use Rattle.model.specs.Layout.{Job, Entries, taskFrom, fileFrom, runFrom, instanceFrom, scheduleFrom, partialFrom, colourAt, countIn, JobBounds}
 
 pub time-by : (x : Colour) (a : Task) → timeOn (asColour x) a ≡ byColour x (a .onBlue) (a .onRed)
 time-by Blue a = refl

@@ -10,7 +10,7 @@ pub enum Colour {
     Red,
 }
 
-// Document 001's actual move time of a file whose move time is `time`: it takes none within a colour.
+// Document 001's actual move time of a file whose move time is C, here `time`: 0 within a colour, C across.
 pub fn move_time_between(maker: Colour, reader: Colour, time: u64) -> u64
     ensures { λ r. ⌜ r ≡ moveTimeBetween (asColour maker) (asColour reader) time ⌝ }
     ensures { λ r. ⌜ r ≤ time ⌝ }
@@ -27,7 +27,7 @@ pub fn move_time_between(maker: Colour, reader: Colour, time: u64) -> u64
     }
 }
 
-// What the reader's colour must newly hold of a file of this size: its own memory has it already within a colour.
+// What the reader's colour must newly hold of a file of size F, here `size`: 0 within a colour, whose memory holds it already, F across.
 pub fn newly_held(maker: Colour, reader: Colour, size: u64) -> u64
     ensures { λ r. ⌜ r ≡ newlyHeld (asColour maker) (asColour reader) size ⌝ }
     ensures { λ r. ⌜ r ≤ size ⌝ }

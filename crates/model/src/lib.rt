@@ -1,4 +1,4 @@
-// The instance and the schedule as arrays of numbers, and what the memories hold by them.
+// The instance and the schedule as arrays of numbers; the two colours, and what a file costs between them; what the memories hold.
 pub mod choice;
 pub mod claim;
 pub mod colour;

@@ -15,8 +15,8 @@ use super::layout;
 use super::layout::Shape;
 
 // What the two runs of a file imply: whether it moves, and its times. `begun` and `made` are its maker's start and finish,
-// `departs` and `arrives` the start and the end of its move, the end by its actual move time; its reader `starts`, and keeps it
-// until `released`.
+// `departs` and `arrives` the start and the end of its move, the end by its actual move time; they mean nothing for a file that
+// does not move. Its reader `starts`, and keeps it until `released`.
 pub struct FileTimes {
     pub moves: bool,
     pub begun: u64,

@@ -21,7 +21,8 @@ fn saturating_sub(m: u64, n: u64) -> u64
     if m < n { 0 } else { m - n }
 }
 
-// When file k moves with task i placed on the colour at the start: a crossing file at the start less its own move time.
+// When file k moves with task i placed on the colour at the start: a crossing file at the start less its own move time, any other
+// as before.
 fn move_with<'a>(
     shape: Shape,
     job: &'a [u64; layout::JOB],

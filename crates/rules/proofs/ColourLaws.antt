@@ -1,19 +1,18 @@
 -- Order 2 in words: trialByCases, totalsByCases, placingByCases; holdByCases, wholeFile; fileByCases, movesTakeTime, printedRule.
-use Prim.Native.Nat.{ℕ, _+_, _≤_, _<_}
+use Prim.Native.Nat.{ℕ, _+_, _≤_}
 use mathlib.Core.Bool.{Bool, true, false, not, cond, _&&_}
 use mathlib.Core.Path.{_≡_, refl, sym, ap, _∙_}
-use mathlib.Core.Logic.{_↔_}
 use native.Mathlib.Omega.{arith}
 use lib.Dec.{ltb}
 use borrow.Author.Tests.{le-leb, lt-ltb, ltb-true}
 use Rattle.rules.specs.Model.{Colour, blue, red, sameColour, moveTimeBetween, newlyHeld, Instance, fileAt, fileCount, sizeAt, moveTimeAt, isPlaced}
-use Rattle.rules.specs.Model.{Schedule, moveAt, startAt, releaseAt, makerRun, readerRun, makerColour, readerColour, madeAt, moved, actualMoveTime, moveEnd}
+use Rattle.rules.specs.Model.{Schedule, moveAt, releaseAt, makerRun, readerRun, makerColour, readerColour, madeAt, moved, actualMoveTime, moveEnd}
 use Rattle.rules.specs.Residency.{openHold, closedHold, covers, holdOf}
 use Rattle.rules.specs.Validity.{OnTime}
-use Rattle.rules.specs.Scheduling.{reads, crossingSize, crossingTime}
+use Rattle.rules.specs.Scheduling.{reads, crossingSize, crossingTime, inputStart}
 use Rattle.rules.specs.ColourCases.{Counts, TrialByCases, TotalsByCases, PlacingByCases, HoldByCases, WholeFile}
 use Rattle.rules.specs.ColourCases.{Stays, Moves, FileByCases, MovesTakeTime, Communicates, PrintedRule}
-use Rattle.rules.proofs.CountLaws.{sum-cong, max-cong}
+use Rattle.rules.proofs.CountLaws.{sum-cong, max-cong, where-cong}
 use Rattle.rules.proofs.HoldLaws.{hold-open, hold-closed}
 use Rattle.rules.proofs.Tests.{split, clash}
 
@@ -60,8 +59,9 @@ trialByCases I P i k read = record {
 }
 
 pub totalsByCases : TotalsByCases
-unfolding crossingSize crossingTime
+unfolding crossingSize crossingTime inputStart
 totalsByCases I P i c = record {
+  arrives = where-cong (fileCount I) (reads I i) _ _ (λ k l read. counts I P i k read (makerColour I P k) c refl .arrives);
   waits = max-cong (fileCount I) _ _ (λ k l. move-cases (reads I i k) (makerColour I P k) c (moveTimeAt I k));
   enters = sum-cong (fileCount I) _ _ (λ k l. size-cases (reads I i k) (makerColour I P k) c (sizeAt I k));
 }

@@ -1,5 +1,6 @@
 -- Order 2 in words: what a file costs by the four cases of its maker and its reader, blue-blue, red-red, blue-red and red-blue.
--- Each rule is stated case by case, of the definitions that were there before the order, and then for all cases by `moveTimeBetween` and `newlyHeld`.
+-- Each rule is stated case by case. The totals of a trial, what is left to hold of a file and document 001's constraints are stated for all cases at
+-- once, by `moveTimeBetween` and `newlyHeld`.
 use Prim.Native.Nat.{ℕ, _+_, _-_, _≤_, _<_}
 use mathlib.Core.Bool.{true, false, cond}
 use mathlib.Core.Path.{_≡_}
@@ -9,19 +10,19 @@ use Rattle.rules.specs.Model.{Colour, blue, red, moveTimeBetween, newlyH
 use Rattle.rules.specs.Model.{Schedule, startAt, moveAt, releaseAt, makerRun, readerRun, makerColour, readerColour, moved, actualMoveTime, madeAt, moveEnd}
 use Rattle.rules.specs.Residency.{Hold, never, during, since, holdOf, isHeld}
 use Rattle.rules.specs.Validity.{OnTime}
-use Rattle.rules.specs.Scheduling.{reads, crossing, crossingSize, crossingTime, arrival, moveWith}
+use Rattle.rules.specs.Scheduling.{reads, crossing, crossingSize, crossingTime, arrival, inputStart, moveWith}
 use Rattle.rules.specs.Promises.{WellFormed}
 
 -- ---- a trial of a task
 
--- what a trial of task i on colour c counts for file k, which it reads: `time` from its maker's finish to its arrival (start 2) and among the move times
--- (start 4), and `size` among the sizes of the crossing files (starts 3 and 4)
+-- what a trial of task i on colour c counts for file k, which it reads: `time` from its maker's finish to its arrival (start 2) and, by whether it crosses,
+-- among the move times of start 4; `size`, by whether it crosses, among the sizes of starts 3 and 4
 pub record Counts (I : Instance) (P : Schedule) (i k : ℕ) (c : Colour) (time size : ℕ) : Type 0 where
   pub arrives : arrival I P i c k ≡ madeAt I P k + time
   pub waits : cond (crossing I P i c k) (moveTimeAt I k) 0 ≡ time
   pub enters : cond (crossing I P i c k) (sizeAt I k) 0 ≡ size
 
--- the colours are those of the file's maker and of the trial. Not: document 001's reversed δ; C within a colour; C where F is due
+-- the colours are those of the file's maker and of the trial. Not: document 001's reversed δ; C within a colour
 pub record TrialCases (I : Instance) (P : Schedule) (i k : ℕ) : Type 0 where
   pub blueBlue : makerColour I P k ≡ blue → Counts I P i k blue 0 0
   pub redRed : makerColour I P k ≡ red → Counts I P i k red 0 0
@@ -31,14 +32,16 @@ pub record TrialCases (I : Instance) (P : Schedule) (i k : ℕ) : Type 0 where
 abbrev pub TrialByCases : Type 0
 TrialByCases = (I : Instance) (P : Schedule) (i k : ℕ) → reads I i k ≡ true → TrialCases I P i k
 
--- the whole trial: the greatest move time and the sizes of the crossing files are those of all files that the task reads, each by its case.
--- Not: a file left out
-pub record Totals (I : Instance) (P : Schedule) (i : ℕ) (c : Colour) : Type 0 where
+-- the whole trial: start 2, the greatest move time and the sizes of the crossing files are those of all files that the task reads, each by its case.
+-- Not: a file left out; the greatest C for each file; C where F is due
+pub record TrialTotals (I : Instance) (P : Schedule) (i : ℕ) (c : Colour) : Type 0 where
+  pub arrives : inputStart I P i c
+      ≡ maxWhere (fileCount I) (reads I i) (λ k. madeAt I P k + moveTimeBetween (makerColour I P k) c (moveTimeAt I k))
   pub waits : crossingTime I P i c ≡ maxWhere (fileCount I) (reads I i) (λ k. moveTimeBetween (makerColour I P k) c (moveTimeAt I k))
   pub enters : crossingSize I P i c ≡ sumWhere (fileCount I) (reads I i) (λ k. newlyHeld (makerColour I P k) c (sizeAt I k))
 
 abbrev pub TotalsByCases : Type 0
-TotalsByCases = (I : Instance) (P : Schedule) (i : ℕ) (c : Colour) → Totals I P i c
+TotalsByCases = (I : Instance) (P : Schedule) (i : ℕ) (c : Colour) → TrialTotals I P i c
 
 -- where the move of file k stands after its reader i was placed at `start`: as before within a colour, else at the start less its own move time.
 -- Not: the greatest move time for all; a move set for a file that stays
@@ -59,7 +62,7 @@ HeldAs I P k inBlue inRed = (holdOf I P blue k ≡ inBlue) × (holdOf I P red k 
 
 -- a file with both its tasks placed: within a colour that memory alone has it, from its maker's start until its reader's release; across, its maker's
 -- until the move's end, and its reader's from the move's start. Not: the maker's memory freed at the move's start; both memories within a colour
-pub record HoldCases (I : Instance) (P : Schedule) (k begun released : ℕ) : Type 0 where
+pub record HeldCases (I : Instance) (P : Schedule) (k begun released : ℕ) : Type 0 where
   pub blueBlue : makerColour I P k ≡ blue → readerColour I P k ≡ blue → HeldAs I P k (during begun released) never
   pub redRed : makerColour I P k ≡ red → readerColour I P k ≡ red → HeldAs I P k never (during begun released)
   pub blueRed : makerColour I P k ≡ blue → readerColour I P k ≡ red → HeldAs I P k (during begun (moveEnd I P k)) (during (moveAt P k) released)
@@ -68,9 +71,10 @@ pub record HoldCases (I : Instance) (P : Schedule) (k begun released : ℕ) : Ty
 abbrev pub HoldByCases : Type 0
 HoldByCases =
     (I : Instance) (P : Schedule) (k : ℕ) → isPlaced (makerRun I P k) ≡ true → isPlaced (readerRun I P k) ≡ true →
-    HoldCases I P k (makerRun I P k .start) (releaseAt I P (fileAt I k .reader))
+    HeldCases I P k (makerRun I P k .start) (releaseAt I P (fileAt I k .reader))
 
--- a file whose reader is not placed: what memory c holds of it already, from its maker's start on, and what c must newly hold of it are the file.
+-- a file whose maker is placed and whose reader is not: what memory c holds of it already, from its maker's start on, and what c must newly hold of it
+-- are the file.
 -- Not: a file of c's own counted again; one of the other colour not counted
 pub record WholeCases (I : Instance) (P : Schedule) (k : ℕ) : Type 0 where
   pub fromBlue : makerColour I P k ≡ blue → HeldAs I P k (since (makerRun I P k .start)) never
@@ -103,7 +107,7 @@ pub record FileCases (I : Instance) (P : Schedule) (k : ℕ) : Type 0 where
 abbrev pub FileByCases : Type 0
 FileByCases = (I : Instance) (P : Schedule) (k : ℕ) → FileCases I P k
 
--- on an accepted board sheet a move is due exactly for the files whose actual move time is above 0: the code asks this
+-- on an accepted board sheet a move is due exactly for the files whose actual move time is above 0: the code asks this. Not: a move that takes no time
 abbrev pub MovesTakeTime : Type 0
 MovesTakeTime = (I : Instance) → WellFormed I → (P : Schedule) (k : ℕ) → k < fileCount I → (moved I P k ≡ true) ↔ (0 < actualMoveTime I P k)
 

@@ -1,6 +1,5 @@
 -- Start 1 over the array of last finishes, and the four starts together.
 use Prim.Native.Nat.{ℕ, suc, _+_, _<_, _≤_, min, max, pred}
-use mathlib.Core.Bool.{Bool, true, false, cond}
 use mathlib.Core.List.{List}
 use mathlib.Core.Option.{none, some}
 use mathlib.Core.Path.{_≡_, refl, _∙_, ap}

@@ -1,6 +1,6 @@
 -- What the code finds of a memory, as the rules have it: whether an amount fits at a tick, the late ends, and the answer that they give.
 use Prim.Native.Nat.{ℕ, _+_, _-_, _≤_, pred}
-use mathlib.Core.Bool.{Bool, true, false, cond}
+use mathlib.Core.Bool.{Bool, true, false}
 use mathlib.Core.Option.{none, some}
 use mathlib.Core.Path.{_≡_, sym, _∙_, ap}
 use native.Mathlib.Numerals.{sub-one}
