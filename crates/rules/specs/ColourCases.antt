@@ -1,6 +1,6 @@
 -- Order 2 in words: what a file costs by the four cases of its maker and its reader, blue-blue, red-red, blue-red and red-blue.
--- Each rule is stated case by case. The totals of a trial, what is left to hold of a file and document 001's constraints are stated for all cases at
--- once, by `moveTimeBetween` and `newlyHeld`.
+-- Each rule is stated case by case. For all cases at once, by `moveTimeBetween` and `newlyHeld`, are stated: the totals of a trial, that held already and
+-- newly held make up the file, that moves take time, and document 001's constraints.
 use Prim.Native.Nat.{ℕ, _+_, _-_, _≤_, _<_}
 use mathlib.Core.Bool.{true, false, cond}
 use mathlib.Core.Path.{_≡_}
@@ -43,8 +43,8 @@ pub record TrialTotals (I : Instance) (P : Schedule) (i : ℕ) (c : Colour) : Ty
 abbrev pub TotalsByCases : Type 0
 TotalsByCases = (I : Instance) (P : Schedule) (i : ℕ) (c : Colour) → TrialTotals I P i c
 
--- where the move of file k stands after its reader i was placed at `start`: as before within a colour, else at the start less its own move time.
--- Not: the greatest move time for all; a move set for a file that stays
+-- `moveWith`, by which `assign` sets the moves: where the move of file k stands with its reader i placed at `start`, as before within a colour, else at the
+-- start less its own move time (0 if that is longer). Not: the greatest move time for all; a move set for a file that stays
 pub record MoveCases (I : Instance) (P : Schedule) (i k start : ℕ) : Type 0 where
   pub blueBlue : makerColour I P k ≡ blue → moveWith I P i blue start k ≡ moveAt P k
   pub redRed : makerColour I P k ≡ red → moveWith I P i red start k ≡ moveAt P k
@@ -74,7 +74,7 @@ HoldByCases =
     HeldCases I P k (makerRun I P k .start) (releaseAt I P (fileAt I k .reader))
 
 -- a file whose maker is placed and whose reader is not: what memory c holds of it already, from its maker's start on, and what c must newly hold of it
--- are the file.
+-- together make up its size.
 -- Not: a file of c's own counted again; one of the other colour not counted
 pub record WholeCases (I : Instance) (P : Schedule) (k : ℕ) : Type 0 where
   pub fromBlue : makerColour I P k ≡ blue → HeldAs I P k (since (makerRun I P k .start)) never
