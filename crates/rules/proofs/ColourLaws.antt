@@ -1,20 +1,22 @@
 -- Order 2 in words: trialByCases, totalsByCases, placingByCases; holdByCases, wholeFile; fileByCases, movesTakeTime, printedRule.
-use Prim.Native.Nat.{ℕ, _+_, _≤_}
+use Prim.Native.Nat.{ℕ, _+_, _≤_, _<_, max}
 use mathlib.Core.Bool.{Bool, true, false, not, cond, _&&_}
 use mathlib.Core.Path.{_≡_, refl, sym, ap, _∙_}
+use mathlib.Core.Logic.{_≢_}
 use native.Mathlib.Omega.{arith}
 use lib.Dec.{ltb}
-use borrow.Author.Tests.{le-leb, lt-ltb, ltb-true}
+use borrow.Author.Tests.{le-leb, lt-ltb, ltb-true, eq-eqb, ne-eqb}
+use Rattle.rules.specs.Count.{sumWhere, maxWhere}
 use Rattle.rules.specs.Model.{Colour, blue, red, sameColour, moveTimeBetween, newlyHeld, Instance, fileAt, fileCount, sizeAt, moveTimeAt, isPlaced}
 use Rattle.rules.specs.Model.{Schedule, moveAt, releaseAt, makerRun, readerRun, makerColour, readerColour, madeAt, moved, actualMoveTime, moveEnd}
 use Rattle.rules.specs.Residency.{openHold, closedHold, covers, holdOf}
 use Rattle.rules.specs.Validity.{OnTime}
-use Rattle.rules.specs.Scheduling.{reads, crossingSize, crossingTime, inputStart}
-use Rattle.rules.specs.ColourCases.{Counts, TrialByCases, TotalsByCases, PlacingByCases, HoldByCases, WholeFile}
+use Rattle.rules.specs.Scheduling.{reads, crossing, arrival, crossingSize, crossingTime, inputStart}
+use Rattle.rules.specs.ColourCases.{other, Adds, TrialByCases, TotalsByCases, PlacingByCases, HoldByCases, WholeFile}
 use Rattle.rules.specs.ColourCases.{Stays, Moves, FileByCases, MovesTakeTime, Communicates, PrintedRule}
-use Rattle.rules.proofs.CountLaws.{sum-cong, max-cong, where-cong}
+use Rattle.rules.proofs.CountLaws.{sum-cong, sum-changed, max-cong, max-changed, where-cong}
 use Rattle.rules.proofs.HoldLaws.{hold-open, hold-closed}
-use Rattle.rules.proofs.Tests.{split, clash}
+use Rattle.rules.proofs.Tests.{split, clash, and-yes, and-no}
 
 -- ---- the two functions
 
@@ -42,26 +44,49 @@ takes-time red blue x l = lt-ltb 0 x (omega arith)
 
 -- ---- a trial
 
-counts : (I : Instance) (P : Schedule) (i k : ℕ) → reads I i k ≡ true → (m c : Colour) → makerColour I P k ≡ m
-    → Counts I P i k c (moveTimeBetween m c (moveTimeAt I k)) (newlyHeld m c (sizeAt I k))
-counts I P i k read m c e = record {
-  arrives = rw (read, e, move-cases true m c (moveTimeAt I k)) refl;
-  waits = rw (read, e) (move-cases true m c (moveTimeAt I k));
-  enters = rw (read, e) (size-cases true m c (sizeAt I k));
-}
+-- a sum and a greatest value with one term apart
+module _ (p : ℕ → Bool) (f : ℕ → ℕ) (k : ℕ) where
+  left-out : (j : ℕ) → j ≢ k → cond (p j) (f j) 0 ≡ cond (p j && other k j) (f j) 0
+  left-out j d = rw (ne-eqb j k d, and-yes (p j))
+
+  own-out : cond (p k && other k k) (f k) 0 ≡ 0
+  own-out = rw (eq-eqb k k refl, and-no (p k))
+
+  sum-other : (n : ℕ) → k < n → sumWhere n p f ≡ sumWhere n (λ j. p j && other k j) f + cond (p k) (f k) 0
+  sum-other n h = sum-changed n _ _ k _ h left-out (omega (arith, own-out))
+
+  max-other : (n : ℕ) → k < n → maxWhere n p f ≡ max (maxWhere n (λ j. p j && other k j) f) (cond (p k) (f k) 0)
+  max-other n h = max-changed n _ _ k _ h left-out own-out refl
+
+module _ (I : Instance) (P : Schedule) (i k : ℕ) (read : reads I i k ≡ true) (m c : Colour) (e : makerColour I P k ≡ m) where
+  arrival-is : arrival I P i c k ≡ madeAt I P k + moveTimeBetween m c (moveTimeAt I k)
+  arrival-is = rw (read, e, move-cases true m c (moveTimeAt I k)) refl
+
+  adds : k < fileCount I → Adds I P i k c (moveTimeBetween m c (moveTimeAt I k)) (newlyHeld m c (sizeAt I k))
+  unfolding inputStart crossingTime crossingSize
+  adds h =
+      let own : cond (reads I i k) (arrival I P i c k) 0 ≡ madeAt I P k + moveTimeBetween m c (moveTimeAt I k) =
+      ap (λ x. cond x (arrival I P i c k) 0) read ∙ arrival-is in
+      let time : cond (crossing I P i c k) (moveTimeAt I k) 0 ≡ moveTimeBetween m c (moveTimeAt I k) = rw (read, e) (move-cases true m c (moveTimeAt I k)) in
+      let size : cond (crossing I P i c k) (sizeAt I k) 0 ≡ newlyHeld m c (sizeAt I k) = rw (read, e) (size-cases true m c (sizeAt I k)) in
+      record {
+        arrives = omega (arith, max-other (reads I i) (arrival I P i c) k (fileCount I) h, own);
+        waits = omega (arith, max-other (crossing I P i c) (moveTimeAt I) k (fileCount I) h, time);
+        enters = omega (arith, sum-other (crossing I P i c) (sizeAt I) k (fileCount I) h, size);
+      }
 
 pub trialByCases : TrialByCases
-trialByCases I P i k read = record {
-  blueBlue = counts I P i k read blue blue;
-  redRed = counts I P i k read red red;
-  blueRed = counts I P i k read blue red;
-  redBlue = counts I P i k read red blue;
+trialByCases I P i k h read = record {
+  blueBlue = λ e. adds I P i k read blue blue e h;
+  redRed = λ e. adds I P i k read red red e h;
+  blueRed = λ e. adds I P i k read blue red e h;
+  redBlue = λ e. adds I P i k read red blue e h;
 }
 
 pub totalsByCases : TotalsByCases
 unfolding crossingSize crossingTime inputStart
 totalsByCases I P i c = record {
-  arrives = where-cong (fileCount I) (reads I i) _ _ (λ k l read. counts I P i k read (makerColour I P k) c refl .arrives);
+  arrives = where-cong (fileCount I) (reads I i) _ _ (λ k l read. arrival-is I P i k read (makerColour I P k) c refl);
   waits = max-cong (fileCount I) _ _ (λ k l. move-cases (reads I i k) (makerColour I P k) c (moveTimeAt I k));
   enters = sum-cong (fileCount I) _ _ (λ k l. size-cases (reads I i k) (makerColour I P k) c (sizeAt I k));
 }

@@ -1,10 +1,11 @@
 -- Order 2 in words: what a file costs by the four cases of its maker and its reader, blue-blue, red-red, blue-red and red-blue.
 -- Each rule is stated case by case. For all cases at once, by `moveTimeBetween` and `newlyHeld`, are stated: the totals of a trial, that held already and
 -- newly held make up the file, that moves take time, and document 001's constraints.
-use Prim.Native.Nat.{ℕ, _+_, _-_, _≤_, _<_}
-use mathlib.Core.Bool.{true, false, cond}
+use Prim.Native.Nat.{ℕ, _+_, _-_, _≤_, _<_, max}
+use mathlib.Core.Bool.{Bool, true, false, not, cond, _&&_}
 use mathlib.Core.Path.{_≡_}
 use mathlib.Core.Logic.{_↔_}
+use lib.Dec.{eqb}
 use Rattle.rules.specs.Count.{sumWhere, maxWhere}
 use Rattle.rules.specs.Model.{Colour, blue, red, moveTimeBetween, newlyHeld, Instance, fileCount, fileAt, sizeAt, moveTimeAt, isPlaced}
 use Rattle.rules.specs.Model.{Schedule, startAt, moveAt, releaseAt, makerRun, readerRun, makerColour, readerColour, moved, actualMoveTime, madeAt, moveEnd}
@@ -15,22 +16,26 @@ use Rattle.rules.specs.Promises.{WellFormed}
 
 -- ---- a trial of a task
 
--- what a trial of task i on colour c counts for file k, which it reads: `time` from its maker's finish to its arrival (start 2) and, by whether it crosses,
--- among the move times of start 4; `size`, by whether it crosses, among the sizes of starts 3 and 4
-pub record Counts (I : Instance) (P : Schedule) (i k : ℕ) (c : Colour) (time size : ℕ) : Type 0 where
-  pub arrives : arrival I P i c k ≡ madeAt I P k + time
-  pub waits : cond (crossing I P i c k) (moveTimeAt I k) 0 ≡ time
-  pub enters : cond (crossing I P i c k) (sizeAt I k) 0 ≡ size
+-- file j is another than file k
+abbrev pub other : ℕ → ℕ → Bool
+other k j = not (eqb j k)
 
--- the colours are those of the file's maker and of the trial. Not: document 001's reversed δ; C within a colour
+-- what file k, which task i reads, adds to a trial on colour c: `time` from its making to its arrival (start 2) and among the move times (start 4), `size`
+-- among the sizes of the crossing files (starts 3 and 4). Each is that of the other files, with file k's own
+pub record Adds (I : Instance) (P : Schedule) (i k : ℕ) (c : Colour) (time size : ℕ) : Type 0 where
+  pub arrives : inputStart I P i c ≡ max (maxWhere (fileCount I) (λ j. reads I i j && other k j) (arrival I P i c)) (madeAt I P k + time)
+  pub waits : crossingTime I P i c ≡ max (maxWhere (fileCount I) (λ j. crossing I P i c j && other k j) (moveTimeAt I)) time
+  pub enters : crossingSize I P i c ≡ sumWhere (fileCount I) (λ j. crossing I P i c j && other k j) (sizeAt I) + size
+
+-- the colours are those of the file's maker and of the trial. Not: document 001's reversed δ; C within a colour; C where F is due; a file left out
 pub record TrialCases (I : Instance) (P : Schedule) (i k : ℕ) : Type 0 where
-  pub blueBlue : makerColour I P k ≡ blue → Counts I P i k blue 0 0
-  pub redRed : makerColour I P k ≡ red → Counts I P i k red 0 0
-  pub blueRed : makerColour I P k ≡ blue → Counts I P i k red (moveTimeAt I k) (sizeAt I k)
-  pub redBlue : makerColour I P k ≡ red → Counts I P i k blue (moveTimeAt I k) (sizeAt I k)
+  pub blueBlue : makerColour I P k ≡ blue → Adds I P i k blue 0 0
+  pub redRed : makerColour I P k ≡ red → Adds I P i k red 0 0
+  pub blueRed : makerColour I P k ≡ blue → Adds I P i k red (moveTimeAt I k) (sizeAt I k)
+  pub redBlue : makerColour I P k ≡ red → Adds I P i k blue (moveTimeAt I k) (sizeAt I k)
 
 abbrev pub TrialByCases : Type 0
-TrialByCases = (I : Instance) (P : Schedule) (i k : ℕ) → reads I i k ≡ true → TrialCases I P i k
+TrialByCases = (I : Instance) (P : Schedule) (i k : ℕ) → k < fileCount I → reads I i k ≡ true → TrialCases I P i k
 
 -- the whole trial: start 2, the greatest move time and the sizes of the crossing files are those of all files that the task reads, each by its case.
 -- Not: a file left out; the greatest C for each file; C where F is due
