@@ -1,4 +1,4 @@
-/* Plans the course example (docs/RULES.md) by both planners, and marks the plans. */
+/* Plans the course example (docs/RULES.md) by both planners, marks the plans, and steps through one. */
 #include <stdio.h>
 #include <string.h>
 
@@ -24,6 +24,20 @@ static void show(uint64_t answer[3], const uint8_t *out) {
            (unsigned long long)v[2], (unsigned long long)v[3], (unsigned long long)v[4]);
 }
 
+/* Each step: the tick, what the two processors run, and where the two files are (1 blue, 2 red, 3 both). */
+static void watch(const uint8_t *paper, size_t len) {
+    uint64_t r[6], running[16], contents[256];
+    uint64_t made = 0;
+    do {
+        frames_simulate((const uint8_t *)sheet, strlen(sheet), paper, len, made, 1, r, running, contents);
+        made = r[4];
+        printf("tick %llu: running %llu %llu, files in %llu %llu\n", (unsigned long long)r[5], (unsigned long long)running[0],
+               (unsigned long long)running[1], (unsigned long long)contents[0], (unsigned long long)contents[1]);
+    } while (r[2]);
+    printf("simulated %llu %llu, span %llu, steps %llu\n", (unsigned long long)r[0], (unsigned long long)r[1], (unsigned long long)r[3],
+           (unsigned long long)r[4]);
+}
+
 int main(void) {
     uint8_t out[32768];
     uint64_t answer[3];
@@ -31,6 +45,7 @@ int main(void) {
     show(answer, out);
     frames_mem_min_min((const uint8_t *)sheet, strlen(sheet), out, sizeof out, answer);
     show(answer, out);
+    watch(out, answer[1]);
     frames_mem_heft((const uint8_t *)sheet, strlen(sheet), out, 10, answer);
     show(answer, out);
     const char paper[] = "(run 1 2 0)\n(run 2 01 3)\n";

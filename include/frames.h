@@ -1,10 +1,10 @@
-/* Plans and marks timetables for a board with two memories. Link target/staticlib/libframes.a, which ./build (or `rt staticlib frames`) writes.
- * docs/RULES.md has the rules.
+/* Plans, marks and simulates timetables for a board with two memories. Link target/staticlib/libframes.a, which ./build (or `rt staticlib
+ * frames`) writes. docs/RULES.md has the rules.
  *
  * A text is a pointer and a length in bytes, and any bytes may be in it: what is wrong with them is the answer. What a caller has to see to:
  *   - Each pointer has as many bytes behind it as its length says, readable, and writable for `line` and `out`. With length 0 it may be NULL.
- *   - `result` is an array of the length shown, and never NULL. What it held before plays no part.
- *   - `line`, `out` and `result` overlap neither a text nor each other. The two texts may overlap, or be one.
+ *   - `result`, `running` and `contents` are arrays of the lengths shown, and never NULL. What they held before plays no part.
+ *   - `line`, `out` and these arrays overlap neither a text nor each other. The two texts may overlap, or be one.
  *   - FRAMES_STACK bytes of stack are left.
  * A call uses no heap, no global data and no file, keeps nothing, and always returns; so calls may run at the same time on several threads. */
 #ifndef FRAMES_H
@@ -26,9 +26,9 @@ extern "C" {
 #define FRAMES_STACK 32768
 
 /* The numbers that a call answers. The place is what stands in brackets; lines and tasks are counted from 1. The marker answers 0, 1 to 4 and 11
- * to 18, a planner 0, 1 to 4, 21 and 31. */
+ * to 18, a planner 0, 1 to 4, 21 and 31, the simulator 0, 1 to 4 and 11 to 17, where the place of 15, 16 and 17 is the faulty tick. */
 enum frames_number {
-    FRAMES_OK = 0,                   /* accepted (0), or planned (bytes written) */
+    FRAMES_OK = 0,                   /* accepted (0), planned (bytes written), or simulated (0) */
     FRAMES_SHEET_TOO_LONG = 1,       /* the board sheet is over FRAMES_MAX_TEXT bytes (0) */
     FRAMES_SHEET_MALFORMED = 2,      /* a line of it is none of its three forms, lacks its LF, or is missing (line) */
     FRAMES_SHEET_OUT_OF_RANGE = 3,   /* a number of it is out of its range (line) */
@@ -58,6 +58,18 @@ void frames_mem_heft(const uint8_t *sheet, size_t sheet_len, uint8_t *out, size_
 
 /* The same by MemMinMin. */
 void frames_mem_min_min(const uint8_t *sheet, size_t sheet_len, uint8_t *out, size_t out_len, uint64_t result[3]);
+
+/* Simulates a timetable (paper) on a board sheet, from before the first step (time 0, nothing running or held); each step goes to the next tick at
+ * which a run, a move or a hold starts or ends. `made` steps are already made, and `steps` are to be made, over 1024 counting as 1024. Both may be
+ * any number: steps past the stop or the end give that stop or end. A later call goes on by naming the steps made that an earlier one gave.
+ * result: number, place, 1 if steps are left (else 0), span, steps made in all, time. While steps are left, number, place and span are 0; a faulty
+ * tick ahead is a step left. On a stop at the first faulty tick number and place are 15, 16 or 17 and that tick, and the state is that of the step
+ * before; on a refused text they are the marker's, and the state is that before the first. At the end number and place are 0 and the span is given;
+ * the claim may be untrue, and the time one tick past the span, where a relay's hold ends.
+ * running[p - 1]: the task that processor p runs, or 0. contents[k]: where file k, counted from 0 in the sheet's order, is held: 0 nowhere, 1 in blue
+ * memory, 2 in red, 3 in both. Every call fills all three arrays; behind the board's processors and the sheet's files they are 0. */
+void frames_simulate(const uint8_t *sheet, size_t sheet_len, const uint8_t *paper, size_t paper_len, uint64_t made, uint64_t steps,
+                     uint64_t result[6], uint64_t running[16], uint64_t contents[256]);
 
 #ifdef __cplusplus
 }

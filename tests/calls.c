@@ -1,5 +1,5 @@
-/* What include/frames.h says of the calls beside their answers: NULL with length 0, bytes that stay, the stack that is used, calls on
- * several threads at once. Prints what it found, and fails at the first difference. */
+/* What include/frames.h says of the calls beside their answers: NULL with length 0, bytes that stay, arrays that are filled, the stack that
+ * is used, calls on several threads at once. Prints what it found, and fails at the first difference. */
 #include <pthread.h>
 #include <stdio.h>
 #include <stdlib.h>
@@ -73,6 +73,58 @@ static void null_and_short(void) {
     expect_that("the timetable, and the byte behind it", memcmp(out, paper, 76) == 0 && out[76] == 7);
 }
 
+/* The simulator's three arrays with a word on both sides of each. */
+typedef struct {
+    uint64_t a, result[6], b, running[16], c, contents[256], d;
+} simulation;
+
+#define PAINT 0xA5A5A5A5A5A5A5A5u
+
+/* A call on painted words: those between the arrays stay, and all words of the arrays are written. */
+static void simulated(const char *what, simulation *s, text sheet, text table, uint64_t made, uint64_t steps) {
+    memset(s, 0xA5, sizeof *s);
+    frames_simulate(sheet.bytes, sheet.len, table.bytes, table.len, made, steps, s->result, s->running, s->contents);
+    int filled = 1;
+    for (int i = 0; i < 6; i++) filled &= s->result[i] != PAINT;
+    for (int i = 0; i < 16; i++) filled &= s->running[i] != PAINT;
+    for (int i = 0; i < 256; i++) filled &= s->contents[i] != PAINT;
+    expect_that(what, filled && s->a == PAINT && s->b == PAINT && s->c == PAINT && s->d == PAINT);
+}
+
+/* The state of the simulator: two processors and two files, and 0 behind them. */
+static void expect_state(const char *what, const simulation *s, uint64_t run1, uint64_t run2, uint64_t file1, uint64_t file2) {
+    uint64_t running[16] = {run1, run2}, contents[256] = {file1, file2};
+    expect(what, s->running, 16, running);
+    expect(what, s->contents, 256, contents);
+}
+
+/* The simulator before the first step, on its way, at the end, past it, stopped, and on refused texts. */
+static void simulator(void) {
+    text sheet = as_text(course), plan = as_text(paper), none = {NULL, 0};
+    simulation s;
+    simulated("no sheet, no paper", &s, none, none, 2, 3);
+    EXPECT("no sheet, no paper", s.result, FRAMES_SHEET_MALFORMED, 1, 0, 0, 0, 0);
+    expect_state("no sheet, no paper", &s, 0, 0, 0, 0);
+    simulated("no paper", &s, sheet, none, 0, 1);
+    EXPECT("no paper", s.result, FRAMES_PAPER_MALFORMED, 1, 0, 0, 0, 0);
+    expect_state("no paper", &s, 0, 0, 0, 0);
+    simulated("no step", &s, sheet, plan, 0, 0);
+    EXPECT("no step", s.result, FRAMES_OK, 0, 1, 0, 0, 0);
+    expect_state("no step", &s, 0, 0, 0, 0);
+    simulated("two steps after two", &s, sheet, plan, 2, 2);
+    EXPECT("two steps after two", s.result, FRAMES_OK, 0, 1, 0, 4, 4);
+    expect_state("two steps after two", &s, 2, 0, 1, 3);
+    simulated("the end", &s, sheet, plan, 0, 6);
+    EXPECT("the end", s.result, FRAMES_OK, 0, 0, 8, 6, 8);
+    expect_state("the end", &s, 0, 0, 0, 0);
+    simulated("past the end", &s, sheet, plan, UINT64_MAX, UINT64_MAX);
+    EXPECT("past the end", s.result, FRAMES_OK, 0, 0, 8, 6, 8);
+    text early = as_text("(run 1 2 0)\n(run 2 1 3)\n(run 3 1 6)\n(move 1 2 1)\n(move 1 3 4)\n(claim 8 5 5)\n");
+    simulated("an early move", &s, sheet, early, 0, 1024);
+    EXPECT("an early move", s.result, FRAMES_EARLY, 1, 0, 0, 1, 0);
+    expect_state("an early move", &s, 0, 1, 2, 2);
+}
+
 /* The largest sheet: 64 tasks and 256 files, and a timetable that moves every file, makers on processor 1 and readers on processor 9. */
 static char large[FRAMES_MAX_TEXT];
 static char large_paper[FRAMES_MAX_TEXT];
@@ -95,7 +147,7 @@ static void make_large(void) {
 }
 
 /* The calls that are measured. Each keeps its answer in `last`. */
-static uint64_t last[5];
+static uint64_t last[6];
 static uint8_t room[FRAMES_MAX_TEXT];
 
 static void *call_mark(void *unused) {
@@ -123,6 +175,14 @@ static void *call_mem_min_min(void *unused) {
     (void)unused;
     text s = as_text(large);
     frames_mem_min_min(s.bytes, s.len, room, sizeof room, last);
+    return NULL;
+}
+
+static void *call_simulate(void *unused) {
+    static uint64_t running[16], contents[256];
+    (void)unused;
+    text s = as_text(large), p = as_text(large_paper);
+    frames_simulate(s.bytes, s.len, p.bytes, p.len, 0, 1024, last, running, contents);
     return NULL;
 }
 
@@ -162,7 +222,9 @@ static void stacks(void) {
     size_t line = measured("frames_fault_line", call_fault_line);
     size_t heft = measured("frames_mem_heft", call_mem_heft);
     size_t min_min = measured("frames_mem_min_min", call_mem_min_min);
-    printf("stack on the largest sheet, in bytes: marker %zu, line at fault %zu, MemHEFT %zu, MemMinMin %zu\n", mark, line, heft, min_min);
+    size_t simulate = measured("frames_simulate", call_simulate);
+    printf("stack on the largest sheet, in bytes: marker %zu, line at fault %zu, MemHEFT %zu, MemMinMin %zu, simulator %zu\n", mark, line, heft,
+           min_min, simulate);
 }
 
 /* Calls on several threads at once give what each gives alone. */
@@ -181,6 +243,11 @@ static void *many_calls(void *unused) {
         }
         frames_mark(sheet.bytes, sheet.len, out, answer[1], verdict);
         EXPECT("the marker beside others", verdict, FRAMES_OK, 0, 8, 5, 5);
+        simulation s;
+        text table = {out, answer[1]};
+        simulated("the simulator beside others", &s, sheet, table, i % 3, 3 - i % 3);
+        EXPECT("the simulator beside others", s.result, FRAMES_OK, 0, 1, 0, 3, 3);
+        expect_state("the simulator beside others", &s, 2, 0, 1, 2);
     }
     return unused;
 }
@@ -197,9 +264,10 @@ static void threads(void) {
 
 int main(void) {
     null_and_short();
+    simulator();
     make_large();
     stacks();
     threads();
-    puts("calls from C: NULL, short buffers, stack and threads as include/frames.h says");
+    puts("calls from C: NULL, short buffers, the simulator's arrays, stack and threads as include/frames.h says");
     return 0;
 }

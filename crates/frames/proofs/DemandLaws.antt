@@ -7,7 +7,7 @@ use lib.ListN.{length}
 use Rattle.rules.specs.Limits.{maxText}
 use Rattle.rules.specs.Validity.{Verdict}
 use Rattle.rules.specs.Scheduling.{Planner}
-use Rattle.rules.specs.Text.{Fault, inSheet, faultNumber}
+use Rattle.rules.specs.Text.{Fault, inSheet, inTimetable, faultNumber}
 use Rattle.rules.specs.Calls.{Answer, mark, plan}
 use Rattle.rules.specs.CallsExact.{Planned, byText, by21, by31, by0}
 use Rattle.rules.proofs.SheetLaws.{sheetExact}
@@ -16,8 +16,11 @@ use Rattle.rules.proofs.ScheduleFaultLaws.{scheduleFaults}
 use Rattle.rules.proofs.MarkerLaws.{markerEnds, markerExact, mark-sheet, mark-timetable}
 use Rattle.rules.proofs.PlannerLaws.{plannerEnds, plannerExact, plansShort, readBack, ampleMemory, plan-refused, plan-trials}
 use Rattle.rules.proofs.CallsExactLaws.{markCall, planCall}
+use Rattle.rules.specs.Simulation.{Simulation, simulate}
+use Rattle.rules.proofs.SimulatorLaws.{simulatorLaw, simulate-sheet, simulate-timetable}
+use Rattle.rules.proofs.SimulationExactLaws.{textExact, numbersTell}
 use Rattle.rules.proofs.TrialLaws.{trialBound}
-use Rattle.frames.specs.Demands.{MarkerDemands, PlannerDemands}
+use Rattle.frames.specs.Demands.{MarkerDemands, PlannerDemands, SimulatorDemands}
 use Rattle.frames.proofs.FaultLaws.{marked-by-sheet, marked-by-paper, planned-by-sheet, sheet-numbers}
 
 -- ---- the marker
@@ -66,3 +69,22 @@ module _ (R : Planner) (sheet buffer : List ℕ) where
 
   pub planner-demands : {a : Answer} → a ≡ plan R sheet buffer → PlannerDemands R sheet buffer a
   planner-demands e = rw e plan-demands
+
+-- ---- the simulator
+module _ (sheet paper : List ℕ) (made steps : ℕ) where
+  simulate-demands : SimulatorDemands sheet paper made steps (simulate sheet paper made steps)
+  simulate-demands = record {
+    ends = numbersTell sheet paper made steps;
+    call = simulatorLaw sheet paper made steps;
+    sheetFault = λ w k. (
+      (λ e. mark-demands sheet paper .sheetFault w k .0 (textExact sheet paper made steps (faultNumber inSheet w) k .0 e .0)),
+      (λ f. ap (λ a. a .progress) (simulate-sheet sheet paper w k (sheetFaults sheet w k .1 f) made steps)),
+    );
+    paperFault = λ I s w k. (
+      (λ e. mark-demands sheet paper .paperFault I s w k .0 (textExact sheet paper made steps (faultNumber inTimetable w) k .0 e .0)),
+      (λ f. ap (λ a. a .progress) (simulate-timetable sheet paper I w k s (scheduleFaults I paper w k .1 f) made steps)),
+    );
+  }
+
+  pub simulator-demands : {a : Simulation} → a ≡ simulate sheet paper made steps → SimulatorDemands sheet paper made steps a
+  simulator-demands e = rw e simulate-demands

@@ -5,5 +5,7 @@ pub mod DemandLaws
 pub mod MarkLaws
 -- a planner, by what was read and made
 pub mod PlanLaws
+-- the simulator, by what was read
+pub mod SimulateLaws
 -- the exported calls
 pub mod ExportLaws

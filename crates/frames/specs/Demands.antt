@@ -16,6 +16,9 @@ use Rattle.rules.specs.Promises.{MarkedOrRefused, MarkedExactly, WrittenOrRefus
 use Rattle.rules.specs.CallsExact.{Marking, Planned}
 use Rattle.rules.specs.SheetFaults.{SheetFault}
 use Rattle.rules.specs.ScheduleFaults.{ScheduleFault}
+use Rattle.rules.specs.Simulation.{Simulation, refusedBy as refusedText}
+use Rattle.rules.specs.SimulationPromises.{Simulated}
+use Rattle.rules.specs.SimulationExact.{Told}
 
 -- what the marker's answer v to a board sheet and a timetable's text promises
 pub record MarkerDemands (sheet paper : List ℕ) (v : Verdict) : Type 0 where
@@ -50,3 +53,16 @@ pub record PlannerDemands (R : Planner) (sheet buffer : List ℕ) (a : Answer) :
       → (C : Completes R sheet I) × (length (scheduleText I (C .schedule) (trueClaim I (C .schedule))) ≤ length buffer → a .number ≡ 0)
   -- for an accepted sheet the trials are those of the rule, also after 21 and 31, and at most n × (n + 1). Not: a made-up count
   pub trials : (I : Instance) → readInstance sheet ≡ accepted I → (a .trials ≡ trialsOf (outcome R I)) × (a .trials ≤ taskCount I * (taskCount I + 1))
+
+-- what the simulator's answer a promises, for so many steps made and to make
+pub record SimulatorDemands (sheet paper : List ℕ) (made steps : ℕ) (a : Simulation) : Type 0 where
+  -- a text refused by 1 to 4 or 11 to 14 with the state before the first, stopped by 15, 16 or 17, steps left, or ended. Not: a number of its own
+  pub ends : Told a
+  -- for texts that are read, the state after the steps made, and each ending exactly where it comes; given steps enough, stopped exactly where the
+  -- marker refuses by 15 to 17. Not: always steps left; the state of the faulty tick; the marker's first fault for the first faulty tick
+  pub call : Simulated sheet paper made steps a
+  -- 1 to 4 at k exactly if the sheet has that fault first, at line k. Not: steps of an earlier call shown before it
+  pub sheetFault : (w : Fault) (k : ℕ) → (a .progress ≡ refusedText (faultNumber inSheet w) k) ↔ SheetFault sheet w k
+  -- for an accepted sheet, 11 to 14 at k exactly if the paper has that fault first, at line k. Not: a paper with no claim walked through
+  pub paperFault : (I : Instance) → readInstance sheet ≡ accepted I → (w : Fault) (k : ℕ)
+      → (a .progress ≡ refusedText (faultNumber inTimetable w) k) ↔ ScheduleFault I paper w k

@@ -5,9 +5,12 @@ ghost use lib.Dec.{leb};
 ghost use lib.ListN.{length};
 ghost use Rattle.rules.specs.Calls.{mark as rules-mark, faultLine, overwritten, plan as rules-plan};
 ghost use Rattle.rules.specs.Scheduling.{memHeft, memMinMin};
-ghost use Rattle.frames.specs.Exports.{verdictNumbers, answerNumbers};
+ghost use Rattle.rules.specs.Simulation.{simulate as rules-simulate};
+ghost use Rattle.frames.specs.Exports.{verdictNumbers, answerNumbers, simulationNumbers};
 use crate::marker;
 use crate::planners;
+use crate::simulation;
+use rules::Board;
 
 // Number, place, span, blue peak and red peak of `mark`.
 #[no_mangle]
@@ -51,4 +54,29 @@ pub extern "C" fn frames_mem_min_min(sheet: &[u8], out: &mut [u8], result: &mut 
 {
     let a = planners::mem_min_min(sheet, out);
     *result = [a.number, a.place, a.trials];
+}
+
+// Number, place, 1 if steps are left, span, steps made and time of `simulate`; the task that each processor runs, or 0; where each file
+// is held: 0 nowhere, 1 in blue, 2 in red, 3 in both.
+#[no_mangle]
+pub extern "C" fn frames_simulate<'a>(
+    sheet: &'a [u8],
+    paper: &'a [u8],
+    made: u64,
+    steps: u64,
+    result: &mut [u64; 6],
+    running: &mut [u64; Board::ALL_PROCESSORS],
+    contents: &mut [u64; Board::MAX_FILES],
+)
+    ensures { λ r. ⌜ now (result .exit) ≡ simulationNumbers (rules-simulate (now (sheet .entry)) (now (paper .entry)) made steps) ⌝ }
+    ensures { λ r. ⌜ now (running .exit) ≡ rules-simulate (now (sheet .entry)) (now (paper .entry)) made steps .state .running ⌝ }
+    ensures { λ r. ⌜ now (contents .exit) ≡ rules-simulate (now (sheet .entry)) (now (paper .entry)) made steps .state .contents ⌝ }
+{
+    let a = simulation::simulate(sheet, paper, made, steps);
+    let p = a.progress;
+    *result = [p.number(), p.place(), p.left(), p.span(), a.made, a.time];
+    let tasks = a.running;
+    *running = tasks;
+    let files = a.contents;
+    *contents = files;
 }

@@ -2,10 +2,14 @@
 mod exports;
 mod marker;
 mod planners;
+mod simulation;
 
 pub use marker::fault_line;
 pub use marker::mark;
 pub use plan_text::Answer;
 pub use planners::mem_heft;
 pub use planners::mem_min_min;
+pub use simulation::simulate;
+pub use simulator::answer::Progress;
+pub use simulator::answer::Simulation;
 pub use validator::judgement::Verdict;

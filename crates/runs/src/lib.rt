@@ -32,7 +32,7 @@ fn starts_before_finish(a: Run, b: Run) -> bool
 }
 
 // Whether two runs are on one processor and share an instant: each starts before the other's finish.
-fn overlapping_runs(a: Run, b: Run) -> bool
+pub fn overlapping_runs(a: Run, b: Run) -> bool
     ensures { λ t. ⌜ t ≡ overlapping a b ⌝ }
 {
     if a.processor != b.processor {

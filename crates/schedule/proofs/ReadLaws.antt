@@ -17,7 +17,11 @@ use Rattle.model.specs.declared.layout.Shape.{Shape}
 use Rattle.model.specs.Layout.{Job, Entries, instanceFrom, scheduleFrom}
 use Rattle.schedule.specs.declared.reader.Progress.{Progress}
 use Rattle.schedule.specs.declared.reader.Progress.the-variants.{At, Refused}
-use Rattle.schedule.specs.Reading.{goesOn, InText, nothing}
+use Rattle.schedule.specs.declared.reader.ScheduleRead.{ScheduleRead as Answer}
+use Rattle.schedule.specs.declared.reader.ScheduleRead.the-variants as Answer
+use Rattle.model.specs.declared.claim.Claim as Code
+use Rattle.model.specs.Claims.{asClaim}
+use Rattle.schedule.specs.Reading.{asRead, goesOn, InText, nothing}
 
 -- ---- how far the text is read
 pub in-text : (bs : List ℕ) (most at k : ℕ) (r : Progress) → r ≡ At at k → InText bs most r → (at ≤ length bs) × (k ≤ suc most)
@@ -54,3 +58,11 @@ module _ (I : Instance) (bs : List ℕ) where
 module _ (b : Shape) (J : Job) (L : Entries) (c : Claim) where
   pub read-spellable : (bs : List ℕ) → readSchedule (instanceFrom b J) bs ≡ read (scheduleFrom b L) c → Spellable (instanceFrom b J) (scheduleFrom b L) c
   read-spellable bs e = read-only (instanceFrom b J) (scheduleFrom b L) c bs e .0
+
+-- ---- what the answer says was read
+module _ (I : Instance) (bs : List ℕ) (P : Schedule) (r : Answer) (told : asRead P r ≡ readSchedule I bs) where
+  pub was-read : {c : Code.Claim} → r ≡ Answer.Read c → readSchedule I bs ≡ read P (asClaim c)
+  was-read e = sym told ∙ rw e
+
+  pub was-refused : {f : Fault} {k : ℕ} → r ≡ Answer.Refused f k → readSchedule I bs ≡ refused (asFault f) k
+  was-refused e = sym told ∙ rw e

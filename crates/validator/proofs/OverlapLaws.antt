@@ -18,11 +18,11 @@ use Rattle.runs.specs.Scan.{overlapping, noRun}
 use Rattle.validator.specs.Records.{recordAt, Records}
 
 module _ (I : Instance) (P : Schedule) where
-  overlap-self : (i j : ℕ) → i ≡ j → overlap I P i j ≡ false
+  pub overlap-self : (i j : ℕ) → i ≡ j → overlap I P i j ≡ false
   unfolding overlap
   overlap-self i j e = rw (eq-eqb i j e)
 
-  overlap-records : (i j : ℕ) → i ≢ j → overlap I P i j ≡ overlapping (recordAt I P i) (recordAt I P j)
+  pub overlap-records : (i j : ℕ) → i ≢ j → overlap I P i j ≡ overlapping (recordAt I P i) (recordAt I P j)
   unfolding overlap overlapping
   overlap-records i j ne = rw (ne-eqb i j ne)
 

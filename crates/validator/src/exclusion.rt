@@ -13,7 +13,7 @@ use rules::Board;
 use runs::Run;
 
 // The run of task i.
-fn run_of<'a>(
+pub fn run_of<'a>(
     shape: Shape,
     job: &'a [u64; layout::JOB],
     schedule: &'a [u64; layout::SCHEDULE],

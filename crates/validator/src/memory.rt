@@ -19,7 +19,7 @@ use model::residency::held_at;
 use model::residency::horizon_of;
 
 // Whether a memory is over its limit at tick t.
-fn over_at<'a>(
+pub fn over_at<'a>(
     shape: Shape,
     job: &'a [u64; layout::JOB],
     schedule: &'a [u64; layout::SCHEDULE],

@@ -1,10 +1,12 @@
 //! Board sheets and timetables by chance, from a fixed seed: sound ones, and ones with a fault.
 
 use crate::reference::{
-    finish, moves, peaks, read_sheet, span, write_table, Sheet, Table, MAX_TEXT,
+    finish, moves, peaks, read_sheet, span, write_table, Sheet, Table, BIG, MAX_TEXT,
 };
+use crate::simulation::Film;
 
 /// A generator of numbers (SplitMix64).
+#[derive(Default)]
 pub struct Random(pub u64);
 
 impl Random {
@@ -335,6 +337,128 @@ pub fn shifted(r: &mut Random, sheet: &Sheet, t: &Table) -> String {
         t.moves[k] = (t.moves[k] + r.between(-4, 4)).max(0);
     }
     write_table(sheet, &t)
+}
+
+/// A timetable with one to four of its starts, processors and moves changed, at times all of it later.
+pub fn moved_about(r: &mut Random, sheet: &Sheet, table: &Table) -> Table {
+    let mut t = table.clone();
+    for _ in 0..1 + r.below(4) {
+        let (i, j) = (r.below(t.runs.len()), r.below(t.runs.len()));
+        let ((p, s), (q, other)) = (t.runs[i].unwrap(), t.runs[j].unwrap());
+        match r.below(7) {
+            0 => t.runs[i] = Some((p, (s + r.between(-4, 4)).max(0))),
+            1 => (t.runs[i], t.runs[j]) = (Some((q, s)), Some((p, other))),
+            2 => (t.runs[i], t.runs[j]) = (Some((p, other)), Some((q, s))),
+            3 => t.runs[i] = Some((p, other)),
+            4 if !sheet.files.is_empty() => {
+                let k = r.below(t.moves.len());
+                t.moves[k] = (t.moves[k] + r.between(-4, 4)).max(0);
+            }
+            _ if !sheet.files.is_empty() => {
+                let f = &sheet.files[r.below(sheet.files.len())];
+                let (p, s) = t.runs[f.maker].unwrap();
+                let last = finish(sheet, &t, f.maker).max(s + 1) - 1;
+                t.runs[f.reader] = Some((p, r.between(s, last)));
+            }
+            _ => {}
+        }
+    }
+    for (k, f) in sheet.files.iter().enumerate() {
+        if moves(sheet, &t, f) && !moves(sheet, table, f) {
+            t.moves[k] = finish(sheet, &t, f.maker);
+        }
+    }
+    later(r, sheet, t)
+}
+
+/// A timetable a few ticks later, as late as can be written, or mostly as it was.
+fn later(r: &mut Random, sheet: &Sheet, mut t: Table) -> Table {
+    let moved = sheet.files.iter().zip(&t.moves);
+    let moved = moved.filter(|(f, _)| moves(sheet, &t, f)).map(|(_, m)| *m);
+    let last = t.runs.iter().map(|run| run.unwrap().1).chain(moved).max();
+    let by = match r.below(8) {
+        0 | 1 => r.between(1, 5),
+        2 => BIG - last.unwrap() - r.between(0, 2),
+        _ => 0,
+    };
+    t.runs = t
+        .runs
+        .iter()
+        .map(|run| run.map(|(p, s)| (p, s + by)))
+        .collect();
+    t.moves = t.moves.iter().map(|m| m + by).collect();
+    t
+}
+
+/// A sheet with limits at what a timetable holds before the first tick of 15 or 16, so that 17 applies there too where it then holds more.
+pub fn limited_before_fault(sheet: &Sheet, t: &Table) -> Sheet {
+    let mut s = sheet.clone();
+    s.limits = [BIG; 2];
+    let film = Film::new(&s, t);
+    if let Some(tick) = film.faulty_tick() {
+        s.limits = film.peaks_before(tick);
+    }
+    s
+}
+
+/// The text of a timetable with its true claim; where no claim can name the span, with the greatest that can be written.
+pub fn write_paper(sheet: &Sheet, t: &Table) -> String {
+    let (text, s) = (write_table(sheet, t), span(sheet, t));
+    if s > BIG {
+        text.replace(&format!("(claim {s} "), &format!("(claim {BIG} "))
+    } else {
+        text
+    }
+}
+
+/// A sheet of 64 tasks and 256 files, each from one of the first 32 tasks to one of the others, with a move time.
+fn halves(time: i64) -> Sheet {
+    let mut sheet = String::from("(board (blue 8 999999999) (red 8 999999999))\n");
+    for i in 1..=64 {
+        sheet += &format!("(task {i} 10 10)\n");
+    }
+    for i in 0..32 {
+        let mut readers: Vec<usize> = (0..8).map(|k| 33 + (8 * i + k) % 32).collect();
+        readers.sort();
+        for j in readers {
+            sheet += &format!("(file {} {j} 1000 {time})\n", i + 1);
+        }
+    }
+    read_sheet(sheet.as_bytes()).expect("a sound sheet")
+}
+
+/// Texts of 64 tasks and 256 files, all moved: makers on a blue processor, readers on a red one, all moves at one tick.
+pub fn all_moved() -> (Vec<u8>, Vec<u8>) {
+    let sheet = halves(5);
+    let start = |i: i64| Some(if i < 32 { (1, 10 * i) } else { (9, 10 * i + 5) });
+    let table = Table {
+        runs: (0..64).map(start).collect(),
+        moves: vec![320; sheet.files.len()],
+    };
+    (
+        write_sheet(&sheet).into_bytes(),
+        write_table(&sheet, &table).into_bytes(),
+    )
+}
+
+/// The same with each start and each end of a run or a move at a tick of its own: 640 ticks.
+pub fn all_apart() -> (Vec<u8>, Vec<u8>) {
+    let sheet = halves(1001);
+    let start = |i: i64| {
+        Some(if i < 32 {
+            (1, 20 * i)
+        } else {
+            (9, 20 * i + 3000)
+        })
+    };
+    let table = Table {
+        runs: (0..64).map(start).collect(),
+        moves: (0..256).map(|k| 1000 + 2 * k).collect(),
+    };
+    (
+        write_sheet(&sheet).into_bytes(),
+        write_table(&sheet, &table).into_bytes(),
+    )
 }
 
 /// A text with some damage: a byte, a line, or a number of it.

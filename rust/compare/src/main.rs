@@ -1,12 +1,14 @@
-//! Compares the proved library with an implementation of its own of document 01 with Orders 1 and 2, on sound and damaged texts from
-//! a fixed seed, and short timetables also with what the memories hold at each tick. Prints how often each answer was reached, what was
-//! answered to timetables with relays, and how often each of the four cases of maker and reader was met. Ends with an error at the first
-//! difference, where an answer or a case was never reached, or where relays were marked as the rules do not allow.
+//! Compares the proved library with an implementation of its own of document 01 with Orders 1 to 3, on sound and damaged texts from
+//! a fixed seed, and short timetables also with what the memories hold at each tick. All that is marked is simulated too. Prints how often
+//! each answer was reached, what was answered to timetables with relays, how often each of the four cases of maker and reader was met, and
+//! what the simulator answered. Ends with an error at the first difference, where an answer or a case was never reached, or where relays
+//! were marked as the rules do not allow.
 
 use compare::colours;
 use compare::generate::{self, Random};
-use compare::reference::{self, Sheet};
+use compare::reference::{self, Sheet, Table};
 use compare::relays::{self, has_relays};
+use compare::stepping;
 use frames::{Planner, Verdict};
 use std::collections::{BTreeMap, BTreeSet};
 
@@ -19,11 +21,23 @@ struct Tally {
     plans: Seen,
     relays: relays::Counts,
     colours: colours::Counts,
+    simulator: stepping::Counts,
     cases: u64,
 }
 
 fn show(text: &[u8]) -> String {
     String::from_utf8_lossy(&text[..text.len().min(2000)]).into_owned()
+}
+
+/// Ends the run if there is a difference, with the two texts.
+fn same(found: Result<(), String>, sheet: &[u8], paper: &[u8]) {
+    if let Err(difference) = found {
+        panic!(
+            "{difference}\nsheet:\n{}\npaper:\n{}",
+            show(sheet),
+            show(paper)
+        );
+    }
 }
 
 impl Tally {
@@ -50,14 +64,9 @@ impl Tally {
         seen.1.insert(got[1]);
         if matches!(got[0], 0 | 15..=18) {
             self.relays.marked(sheet, paper, got[0], got[1]);
-            if let Err(difference) = self.colours.marked(sheet, paper, got) {
-                panic!(
-                    "{difference}\nsheet:\n{}\npaper:\n{}",
-                    show(sheet),
-                    show(paper)
-                );
-            }
+            same(self.colours.marked(sheet, paper, got), sheet, paper);
         }
+        same(self.simulator.marked(sheet, paper, got), sheet, paper);
     }
 
     /// A planner with a buffer of a length, filled with a pattern; what it wrote, if it succeeded.
@@ -239,6 +248,47 @@ fn large(t: &mut Tally, r: &mut Random) {
     }
 }
 
+/// A planner's timetable or one by chance; the latter where the planner is stuck.
+fn planned_table(r: &mut Random, sheet: &[u8], read: &Sheet) -> Table {
+    let plan = reference::plan(r.one_in(2), sheet);
+    match reference::read_table(read, &plan.text) {
+        Ok((table, _)) if r.one_in(2) => table,
+        _ => generate::table(r, read),
+    }
+}
+
+/// Timetables moved about, so that several faults arise, at one tick and at different ones.
+fn moved_papers(t: &mut Tally, r: &mut Random, number: u64) {
+    let plain = generate::sheet(r, if number % 200 == 0 { 64 } else { 7 });
+    let sheet = drawn(r, plain);
+    let read = reference::read_sheet(&sheet).expect("a sound sheet");
+    let table = planned_table(r, &sheet, &read);
+    for _ in 0..4 {
+        let moved = generate::moved_about(r, &read, &table);
+        let limited = match r.below(4) {
+            0 => read.clone(),
+            1 => generate::limited(r, &read, &moved),
+            _ => generate::limited_before_fault(&read, &moved),
+        };
+        let mut paper = generate::write_paper(&read, &moved);
+        if r.one_in(6) {
+            paper = generate::untrue(r, &paper);
+        }
+        t.mark(generate::write_sheet(&limited).as_bytes(), paper.as_bytes());
+    }
+}
+
+/// The films worked by hand, and timetables that move every file, step by step.
+fn films(t: &mut Tally) {
+    if let Err(difference) = t.simulator.by_hand() {
+        panic!("{difference}");
+    }
+    for (sheet, paper) in [generate::all_moved(), generate::all_apart()] {
+        t.mark(&sheet, &paper);
+        same(t.simulator.walk_through(&sheet, &paper), &sheet, &paper);
+    }
+}
+
 fn main() {
     let rounds: u64 = std::env::args()
         .nth(1)
@@ -250,6 +300,10 @@ fn main() {
         round(&mut t, &mut r, number);
     }
     large(&mut t, &mut r);
+    for number in 0..rounds {
+        moved_papers(&mut t, &mut r, number);
+    }
+    films(&mut t);
     let mut ok = t.print(
         "marker",
         &t.marks,
@@ -258,11 +312,12 @@ fn main() {
     ok &= t.print("planner", &t.plans, &[0, 1, 2, 3, 4, 21, 31]);
     t.relays.print();
     t.colours.print();
+    t.simulator.print();
     println!("{} cases, no difference", t.cases);
     if !ok {
         eprintln!("an answer was never reached");
     }
-    let faults = [t.relays.faults(), t.colours.faults()].concat();
+    let faults = [t.relays.faults(), t.colours.faults(), t.simulator.faults()].concat();
     for fault in &faults {
         eprintln!("{fault}");
     }

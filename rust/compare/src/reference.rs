@@ -119,7 +119,8 @@ fn readable(
     Err(base + 2)
 }
 
-const BIG: i64 = 999_999_999;
+/// The greatest number of 9 digits.
+pub const BIG: i64 = 999_999_999;
 
 pub fn read_sheet(text: &[u8]) -> Result<Sheet, Refused> {
     if text.len() > MAX_TEXT {

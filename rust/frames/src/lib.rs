@@ -1,7 +1,7 @@
-//! Plans and marks schedules for a board with two memories, by the proved library `frames`.
+//! Plans, marks and simulates schedules for a board with two memories, by the proved library `frames`.
 //!
 //! A board sheet and a timetable are bytes. Any bytes may be handed in: each call ends in success or in one [`Refusal`],
-//! which has a number and a place and prints as a sentence.
+//! which has a number and a place and prints as a sentence. The simulator's refusals are numbers: see [`Progress`].
 //!
 //! What include/frames.h asks of a caller holds of every call here: slices and mutable slices do not overlap, an empty slice is a pointer
 //! with length 0, and the results are arrays of this crate. Calls use no heap in the library and no global data, so they may run on
@@ -17,8 +17,10 @@
 //! ```
 
 mod refusal;
+mod simulation;
 
 pub use refusal::Refusal;
+pub use simulation::{simulate, Progress, Simulation};
 
 extern "C" {
     fn frames_mark(
@@ -94,13 +96,15 @@ fn verdict(r: [u64; 5]) -> Verdict {
     }
 }
 
-/// The refusal of a number that the library answered. Its contracts leave no other number than 0 and the listed ones, so another
-/// one means that this crate and the library do not belong together.
+/// The refusal of a number that the library answered.
 fn listed(number: u64, place: u64) -> Refusal {
-    match Refusal::from_numbers(number, place) {
-        Some(refusal) => refusal,
-        None => panic!("the library answered {number}, which is not listed as a refusal: is libframes.a of the same version?"),
-    }
+    Refusal::from_numbers(number, place).unwrap_or_else(|| unlisted(number))
+}
+
+/// The library's contracts leave no other number than 0 and the listed ones, so another one means that this crate and the library do
+/// not belong together.
+fn unlisted(number: u64) -> ! {
+    panic!("the library answered {number}, which is not listed as a refusal: is libframes.a of the same version?")
 }
 
 /// The line at fault, without its line feed: of the board sheet for its own faults, of the timetable for the faults of its
@@ -191,8 +195,8 @@ fn planned(answer: Answer, mut out: Vec<u8>) -> Result<Plan, Refusal> {
 mod tests {
     use super::*;
 
-    const COURSE: &[u8] = b"(board (blue 1 6) (red 1 6))\n(task 1 4 2)\n(task 2 3 5)\n(task 3 2 6)\n(file 1 2 2 1)\n(file 1 3 3 2)\n";
-    const PAPER: &[u8] =
+    pub const COURSE: &[u8] = b"(board (blue 1 6) (red 1 6))\n(task 1 4 2)\n(task 2 3 5)\n(task 3 2 6)\n(file 1 2 2 1)\n(file 1 3 3 2)\n";
+    pub const PAPER: &[u8] =
         b"(run 1 2 0)\n(run 2 1 3)\n(run 3 1 6)\n(move 1 2 2)\n(move 1 3 4)\n(claim 8 5 5)\n";
 
     const LISTED: [u64; 14] = [1, 2, 3, 4, 11, 12, 13, 14, 15, 16, 17, 18, 21, 31];

@@ -2,8 +2,8 @@
 use Rattle.model.specs.Layout.{jobOf, entriesOf, instanceFrom, scheduleFrom}
 use Rattle.model.proofs.LayoutLaws.{job-bounds}
 use Rattle.model.proofs.SpelledLaws.{spelled-placed, spelled-bounds}
-use Rattle.schedule.proofs.ReadLaws.{read-spellable}
-use Rattle.mark_text.proofs.PaperLaws.{paper-read, paper-judged, paper-refused}
+use Rattle.schedule.proofs.ReadLaws.{read-spellable, was-read}
+use Rattle.mark_text.proofs.PaperLaws.{paper-judged, paper-refused}
 use borrow.Author.Needs.{needs}
 use Rattle.mark_text.proofs.mark_paper.Statement.{statement}
 use Rattle.mark_text.proofs.mark_paper.Tie as tie
@@ -29,7 +29,7 @@ judge-requires c κs =
     let b = s .args .shape in
     let J = jobOf (s .args .job .now) in
     let L = entriesOf (c .before .before .before .before .read .last .1 .1 .1 .0) in
-    let r = paper-read (instanceFrom b J) (s .args .paper .now) (scheduleFrom b L) (c .before .before .before .before .read .result)
+    let r = was-read (instanceFrom b J) (s .args .paper .now) (scheduleFrom b L) (c .before .before .before .before .read .result)
     (c .before .before .before .before .read .ensures) (c .before .before .claim .given .1) in
     let p = read-spellable b J L _ (s .args .paper .now) r in
     (record { job = job-bounds b J (s .pre); schedule = spelled-bounds b J L _ p }, spelled-placed b J L _ p)

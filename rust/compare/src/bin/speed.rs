@@ -1,14 +1,19 @@
-//! How long the planners and the marker take on sheets of 8, 32 and 64 tasks, beside the independent implementation: the median of
-//! many calls, in one run on one machine.
+//! How long the planners, the marker and the simulator take on sheets of 8, 32 and 64 tasks, beside the independent implementation: the
+//! median of many calls, in one run on one machine.
 
-use compare::generate::{large_sheet, Random};
-use compare::reference::{self, write_table, Table};
-use frames::{Planner, Verdict};
+use compare::generate::{all_apart, all_moved, large_sheet, Random};
+use compare::reference;
+use compare::simulation;
+use frames::{Planner, Progress, Verdict};
 use std::time::Instant;
 
 /// The median time of a call in microseconds.
-fn median(mut call: impl FnMut()) -> f64 {
-    let mut times: Vec<f64> = (0..31)
+fn median(call: impl FnMut()) -> f64 {
+    median_of(31, call)
+}
+
+fn median_of(calls: usize, mut call: impl FnMut()) -> f64 {
+    let mut times: Vec<f64> = (0..calls)
         .map(|_| {
             let start = Instant::now();
             call();
@@ -19,29 +24,60 @@ fn median(mut call: impl FnMut()) -> f64 {
     times[times.len() / 2]
 }
 
-/// A sheet of 64 tasks and 256 files, and a timetable of it that moves every file: makers on a blue processor, readers on a red one.
-fn all_moved() -> (Vec<u8>, Vec<u8>) {
-    let mut sheet = String::from("(board (blue 8 999999999) (red 8 999999999))\n");
-    for i in 1..=64 {
-        sheet += &format!("(task {i} 10 10)\n");
+/// The size of a row's sheet.
+struct Row {
+    tasks: usize,
+    files: usize,
+}
+
+impl Row {
+    fn print(&self, what: &str, ours: f64, theirs: f64) {
+        let Row { tasks, files } = self;
+        println!("| {tasks} | {files} | {what} | {ours:.0} | {theirs:.0} |");
     }
-    for i in 0..32 {
-        let mut readers: Vec<usize> = (0..8).map(|k| 33 + (8 * i + k) % 32).collect();
-        readers.sort();
-        for j in readers {
-            sheet += &format!("(file {} {j} 1000 5)\n", i + 1);
-        }
+
+    /// The marker on an accepted timetable.
+    fn marker(&self, what: &str, sheet: &[u8], paper: &[u8]) {
+        let ours = median(|| {
+            assert!(matches!(
+                frames::mark(sheet, paper),
+                Verdict::Accepted { .. }
+            ));
+        });
+        let theirs = median(|| {
+            reference::mark(sheet, paper);
+        });
+        self.print(what, ours, theirs);
     }
-    let read = reference::read_sheet(sheet.as_bytes()).expect("a sound sheet");
-    let runs = (0..64)
-        .map(|i| Some(if i < 32 { (1, 10 * i) } else { (9, 10 * i + 5) }))
-        .collect();
-    let table = Table {
-        runs,
-        moves: vec![320; read.files.len()],
-    };
-    let paper = write_table(&read, &table);
-    (sheet.into_bytes(), paper.into_bytes())
+
+    /// The simulator to the end of an accepted timetable, in one call.
+    fn simulator(&self, what: &str, sheet: &[u8], paper: &[u8]) {
+        let ours = median(|| {
+            let all = frames::simulate(sheet, paper, 0, 1024);
+            assert!(matches!(all.progress, Progress::Ended { .. }));
+        });
+        let theirs = median(|| {
+            simulation::simulate(sheet, paper, 0, 1024);
+        });
+        self.print(what, ours, theirs);
+    }
+
+    /// The simulator on a timetable of 640 ticks, in as many calls of one step; the median of 5 such walks.
+    fn step_by_step(&self, what: &str, sheet: &[u8], paper: &[u8]) {
+        let ours = median_of(5, || {
+            walk(|made| frames::simulate(sheet, paper, made, 1).made)
+        });
+        let theirs = median_of(5, || {
+            walk(|made| simulation::simulate(sheet, paper, made, 1).made)
+        });
+        self.print(what, ours, theirs);
+    }
+}
+
+/// 640 steps; a step is told the steps made, and tells them.
+fn walk(step: impl Fn(u64) -> u64) {
+    let made = (0..640).fold(0, |made, _| step(made));
+    assert_eq!(made, 640);
 }
 
 fn main() {
@@ -54,9 +90,7 @@ fn main() {
             .expect("a sound sheet")
             .files
             .len();
-        let row = |what: &str, ours: f64, theirs: f64| {
-            println!("| {tasks} | {files} | {what} | {ours:.0} | {theirs:.0} |")
-        };
+        let row = Row { tasks, files };
         let mut out = vec![0u8; reference::MAX_TEXT];
         let mut paper = vec![];
         for (name, planner, heft) in [
@@ -72,36 +106,27 @@ fn main() {
             let theirs = median(|| {
                 reference::plan(heft, &sheet);
             });
-            row(name, ours, theirs);
+            row.print(name, ours, theirs);
         }
         let read = median(|| {
             frames::mark(&sheet, b"");
         });
-        row(
+        row.print(
             "sheet read",
             read,
             median(|| drop(reference::read_sheet(&sheet))),
         );
-        let ours = median(|| {
-            assert!(matches!(
-                frames::mark(&sheet, &paper),
-                Verdict::Accepted { .. }
-            ));
-        });
-        let theirs = median(|| {
-            reference::mark(&sheet, &paper);
-        });
-        row("marker", ours, theirs);
+        row.marker("marker", &sheet, &paper);
+        row.simulator("simulator", &sheet, &paper);
     }
+    let largest = Row {
+        tasks: 64,
+        files: 256,
+    };
     let (sheet, paper) = all_moved();
-    let ours = median(|| {
-        assert!(matches!(
-            frames::mark(&sheet, &paper),
-            Verdict::Accepted { .. }
-        ));
-    });
-    let theirs = median(|| {
-        reference::mark(&sheet, &paper);
-    });
-    println!("| 64 | 256 | marker, every file moved | {ours:.0} | {theirs:.0} |");
+    largest.marker("marker, every file moved", &sheet, &paper);
+    largest.simulator("simulator, every file moved", &sheet, &paper);
+    let (sheet, paper) = all_apart();
+    largest.simulator("simulator, 640 ticks", &sheet, &paper);
+    largest.step_by_step("simulator, 640 ticks step by step", &sheet, &paper);
 }
