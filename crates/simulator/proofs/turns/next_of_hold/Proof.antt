@@ -1,4 +1,5 @@
 -- `next_of_hold` meets its contract, by the cases of a hold.
+use native.Mathlib.Omega.{arith}
 use Rattle.simulator.proofs.TurnLaws.{during-within, since-within, hold-never, hold-empty, hold-during, hold-since}
 use borrow.Author.Needs.{needs}
 use Rattle.simulator.proofs.turns.next_of_hold.Statement.{statement}
@@ -13,7 +14,8 @@ enum-known-h c = search needs
 next-of-two-requires : tie.Need-next-of-two-requires
 next-of-two-requires c κs = let h = c .before .before in
     let s = h .before .before in
-    during-within (s .args .h) (h .h .given .1) (s .pre)
+    let w = during-within (s .args .h) (h .h .given .1) (s .pre) in
+    (omega (arith, w), omega (arith, w))
 
 enum-known-h-2 : tie.Need-enum-known-h-2
 enum-known-h-2 c = search needs
