@@ -5,7 +5,7 @@ use mathlib.Core.List.{List}
 use lib.Dec.{leb}
 use lib.ListN.{getD, set}
 use Rattle.rules.specs.Count.{listBelow}
-use Rattle.rules.specs.Limits.{maxTasks, maxFiles, processorCounts, memoryLimits, runTimes, moveTimes, fileSizes, ticks}
+use Rattle.rules.specs.Limits.{maxTasks, maxFiles, processorCounts, allProcessors, memoryLimits, runTimes, moveTimes, fileSizes, ticks}
 use Rattle.rules.specs.Model as Rules
 use Rattle.rules.specs.Model.{Instance, Schedule, Task, File, Run}
 use Rattle.rules.specs.Scheduling.{Partial}
@@ -82,7 +82,7 @@ entriesOf xs = record {
 
 -- the length of an array of last finishes
 abbrev pub lastLength : ℕ
-lastLength = 2 * processorCounts .most
+lastLength = allProcessors
 
 -- ---- the arrays with one task, file, run or move start written
 

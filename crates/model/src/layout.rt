@@ -39,7 +39,7 @@ const START: usize = Board::MAX_TASKS;
 const MOVE_START: usize = START + Board::MAX_TASKS;
 
 // The last finish of each processor, blue ones first.
-pub const LAST: usize = 2 * (Board::MAX_PROCESSORS as usize);
+pub const LAST: usize = Board::ALL_PROCESSORS;
 
 // The run time of task i on a processor of the colour.
 pub fn run_time(job: &[u64; JOB], i: usize, colour: Colour) -> u64
