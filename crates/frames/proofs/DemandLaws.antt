@@ -7,7 +7,7 @@ use lib.ListN.{length}
 use Rattle.rules.specs.Limits.{maxText}
 use Rattle.rules.specs.Validity.{Verdict}
 use Rattle.rules.specs.Scheduling.{Planner}
-use Rattle.rules.specs.Text.{Fault, inSheet, inTimetable, faultNumber}
+use Rattle.rules.specs.Text.{inSheet, inTimetable, faultNumber}
 use Rattle.rules.specs.Calls.{Answer, mark, plan}
 use Rattle.rules.specs.CallsExact.{Planned, byText, by21, by31, by0}
 use Rattle.rules.proofs.SheetLaws.{sheetExact}

@@ -1,6 +1,6 @@
 -- The simulator's ticks, text refusals and numbers in words: turnLaw, overlapLaw, textExact, stepsCapped, numbersTell.
 use Prim.Native.Nat.{ℕ, zero, suc, _+_, _≤_, _<_, min}
-use mathlib.Core.Bool.{Bool, true, false, not, _&&_, _||_}
+use mathlib.Core.Bool.{true, false, not, _&&_, _||_}
 use mathlib.Core.Path.{_≡_, refl, sym, ap, _∙_}
 use mathlib.Core.Logic.{_⊎_, inl, inr}
 use mathlib.Core.List.{List}
@@ -11,16 +11,14 @@ use Rattle.rules.specs.Count.{anyBelow}
 use Rattle.rules.specs.Limits.{maxSteps}
 use Rattle.rules.specs.Model.{Colour, blue, red, Instance, taskCount, fileCount, Schedule, runAt, startAt, finishAt, moveAt, moved}
 use Rattle.rules.specs.Residency.{Hold, never, during, since, covers, holdOf}
-use Rattle.rules.specs.Validity.{overlap, Claim, refusedBy as refusal, judge, makespan}
+use Rattle.rules.specs.Validity.{overlap, refusedBy as refusal, judge, makespan}
 use Rattle.rules.specs.Text.{Fault, tooLong, malformed, outOfRange, undue, Source, inSheet, inTimetable, faultNumber}
-use Rattle.rules.specs.InstanceText.{InstanceRead, refused, accepted, readInstance}
-use Rattle.rules.specs.ScheduleText.{ScheduleRead, refused as refusedTimetable, read, readSchedule}
 use Rattle.rules.specs.Calls.{mark}
 use Rattle.rules.specs.Simulation.{turns, runTurns, moveTurns, fileTurns, isTurn, faultAt, firstFaulty, Progress, refusedBy, stepsLeft, stopped, ended, numberOf, placeOf, Simulation, progressOf, watch, simulate, refusedText}
 use Rattle.rules.specs.SimulationPromises.{isFault, isOfText, FaultOf, by15, by16, by17}
 use Rattle.rules.specs.SimulationExact.{Begins, Ceases, Turn, runStarts, runEnds, moveStarts, moveEnds, holdStarts, holdEnds, TurnLaw, OverlapLaw, TextExact, StepsCapped, Told, NumbersTell}
 use Rattle.rules.proofs.Tests.{clash, and-true, or-left, or-right, by-or, is-false, or-yes}
-use Rattle.rules.proofs.CountLaws.{any-found, any-some}
+use Rattle.rules.proofs.CountLaws.{any-found}
 use Rattle.rules.proofs.JudgeLaws.{judged}
 use Rattle.rules.proofs.MarkerLaws.{mark-sheet, mark-timetable, mark-judges}
 use Rattle.rules.proofs.TickFaultLaws.{fault-number, first-faulty}

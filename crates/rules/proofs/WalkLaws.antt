@@ -1,6 +1,6 @@
 -- Walking from one tick to the next at which something starts or ends: the first faulty tick is among them, and the walk's answer is `watch`.
 use Prim.Native.Nat.{ℕ, zero, suc, _≤_, _<_, min}
-use mathlib.Core.Bool.{Bool, true, false, cond, _||_}
+use mathlib.Core.Bool.{true, false, cond, _||_}
 use mathlib.Core.Path.{_≡_, refl, sym, _∙_, ap}
 use native.Mathlib.Omega.{arith}
 use native.Mathlib.Decide.{decLe}
@@ -10,8 +10,8 @@ use borrow.Author.Tests.{ltb-true, ltb-false, lt-ltb, leb-true, eq-eqb}
 use Rattle.rules.specs.Count.{sumBelow, anyBelow}
 use Rattle.rules.specs.Model.{Colour, blue, red, Instance, taskCount, fileAt, fileCount, sizeAt, Schedule, startAt, moveAt, moved}
 use Rattle.rules.specs.Residency.{Hold, never, during, since, holdOf, covers, isHeld, held}
-use Rattle.rules.specs.Validity.{Claim, OverLimit, makespan}
-use Rattle.rules.specs.Promises.{WellFormed, Spellable, First}
+use Rattle.rules.specs.Validity.{OverLimit, makespan}
+use Rattle.rules.specs.Promises.{WellFormed, First}
 use Rattle.rules.specs.Simulation.{turns, runTurns, moveTurns, fileTurns, isTurn, faultAt, closing, firstFaulty, stepTicks, stepCount, stateAt, stateAfter, stepsLeft, stopped, ended, progressOf, watch}
 use Rattle.rules.specs.SimulationPromises.{earlyMove, earlyStart, FaultOf, by15, by16, by17, Faulty, FaultTurn}
 use Rattle.rules.proofs.Tests.{split, clash, and-true, or-left, or-right}

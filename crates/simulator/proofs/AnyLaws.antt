@@ -1,11 +1,9 @@
 -- A loop that looks for an index of which a test holds: one is found, or none is left.
-use Prim.Native.Nat.{ℕ, suc, _+_, _<_}
-use mathlib.Core.Bool.{Bool, true, false, cond}
+use Prim.Native.Nat.{ℕ, _<_}
+use mathlib.Core.Bool.{Bool, true, false}
 use mathlib.Core.Path.{_≡_, sym, _∙_}
-use native.Mathlib.Omega.{arith}
-use borrow.Author.Tests.{lt-ltb}
-use Rattle.rules.specs.Count.{anyBelow, firstBelow}
-use Rattle.rules.proofs.CountLaws.{any-some, any-none, first-passed}
+use Rattle.rules.specs.Count.{anyBelow}
+use Rattle.rules.proofs.CountLaws.{any-some}
 
 module _ (p : ℕ → Bool) {i n : ℕ} where
   pub any-yes : i < n → {x : Bool} → x ≡ p i → x ≡ true → true ≡ anyBelow n p

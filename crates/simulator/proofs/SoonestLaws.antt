@@ -1,5 +1,5 @@
 -- The laws of `Soonest`: of one tick, of either of two tests, of a test that never holds; and the next turn by it.
-use Prim.Native.Nat.{ℕ, suc, _+_, _≤_, _<_, min}
+use Prim.Native.Nat.{ℕ, _+_, _≤_, _<_, min}
 use mathlib.Core.Bool.{Bool, true, false, _||_}
 use mathlib.Core.Path.{_≡_, refl, sym, _∙_}
 use native.Mathlib.Numerals.{add-one}
@@ -8,7 +8,7 @@ use native.Mathlib.Decide.{decLe}
 use lib.Dec.{eqb}
 use borrow.Author.Tests.{eqb-true, eq-eqb}
 use Rattle.rules.specs.Count.{anyBelow}
-use Rattle.rules.proofs.Tests.{split, clash, or-yes}
+use Rattle.rules.proofs.Tests.{clash, or-right, by-or}
 use Rattle.model.specs.Layout.{lastTick}
 use Rattle.simulator.specs.Turns.{noTick, Soonest}
 
@@ -53,9 +53,6 @@ soonest-same same s = record {
 
 -- either of two tests
 module _ {p q : ℕ → Bool} {from a b r : ℕ} (e : r ≡ min a b) (x : Soonest p from a) (y : Soonest q from b) where
-  either : {R : Type 0} (u : ℕ) → p u || q u ≡ true → (p u ≡ true → R) → (q u ≡ true → R) → R
-  either u h f g = split (p u) f (λ n. g (rw n at h))
-
   found-either : r ≤ lastTick → (from ≤ r) × (p r || q r ≡ true)
   found-either h = elim (decLe a b) [
     | yes l ↦
@@ -65,15 +62,15 @@ module _ {p q : ℕ → Bool} {from a b r : ℕ} (e : r ≡ min a b) (x : Soones
     | no l ↦
         let z : r ≡ b = omega arith in
         let f = y .found (omega arith) in
-        rw z (f .0, rw (f .1) (or-yes (p b)))
+        rw z (f .0, or-right (p b) (q b) (f .1))
   ]
 
   pub soonest-or : Soonest (λ u. p u || q u) from r
   soonest-or = record {
-    within = λ u h. either u h (x .within u) (y .within u);
+    within = λ u h. by-or (p u) (q u) h (x .within u) (y .within u);
     bound = omega (arith, x .bound);
     found = found-either;
-    least = λ u l h. either u h (λ g. omega (arith, x .least u l g)) (λ g. omega (arith, y .least u l g));
+    least = λ u l h. by-or (p u) (q u) h (λ g. omega (arith, x .least u l g)) (λ g. omega (arith, y .least u l g));
   }
 
 -- ---- over the indices below a bound

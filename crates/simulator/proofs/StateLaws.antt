@@ -1,19 +1,19 @@
 -- The state of a tick, by what the code reads and writes.
 use Prim.Native.Nat.{ℕ, suc, _+_, _≤_, _<_}
-use mathlib.Core.Bool.{Bool, true, false, cond}
+use mathlib.Core.Bool.{Bool, true, false}
 use mathlib.Core.List.{List}
-use mathlib.Core.Path.{_≡_, refl, sym, _∙_, ap}
+use mathlib.Core.Path.{_≡_, sym, _∙_, ap}
 use mathlib.Core.Logic.{_≢_}
 use native.Mathlib.Numerals.{add-one}
 use native.Mathlib.Omega.{arith}
 use native.Mathlib.Decide.{ℕ-discrete}
-use lib.Dec.{ltb, leb, eqb}
+use lib.Dec.{ltb}
 use lib.ListN.{length, getD, set}
 use lib.Seq.{getD-set-same, getD-set-other, ext-getD}
 use borrow.Author.Tests.{lt-ltb, le-ltb, le-leb, lt-leb, eq-eqb, ne-eqb}
 use Rattle.rules.specs.Count.{anyBelow, firstBelow, listBelow}
 use Rattle.rules.specs.Limits.{allProcessors, maxFiles}
-use Rattle.rules.specs.Model.{blue, red, Instance, taskCount, fileCount, Schedule, runAt, startAt, finishAt}
+use Rattle.rules.specs.Model.{blue, red, Instance, taskCount, Schedule, runAt, startAt, finishAt}
 use Rattle.rules.specs.Residency.{covers, holdOf}
 use Rattle.rules.specs.Simulation.{occupies, runningOn, memoryNumber, heldIn, stateAt}
 use Rattle.rules.proofs.CountLaws.{any-none, first-passed, none-first, length-listBelow, getD-listBelow}

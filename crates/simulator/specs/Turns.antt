@@ -1,5 +1,5 @@
 -- The soonest tick of which something holds.
-use Prim.Native.Nat.{ℕ, suc, _≤_, _<_}
+use Prim.Native.Nat.{ℕ, suc, _≤_}
 use mathlib.Core.Bool.{Bool, true}
 use mathlib.Core.Path.{_≡_}
 use Rattle.model.specs.Layout.{lastTick}

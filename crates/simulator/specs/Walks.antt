@@ -4,7 +4,6 @@ use mathlib.Core.Bool.{true}
 use mathlib.Core.Path.{_≡_}
 use Rattle.rules.specs.Model.{Instance, Schedule}
 use Rattle.rules.specs.Simulation.{State, before, stateAt, isTurn, faultAt, Progress, stepsLeft, stopped, ended}
-use Rattle.rules.specs.SimulationPromises.{Faulty}
 use Rattle.rules.specs.Promises.{First}
 use Rattle.model.specs.Layout.{lastTick}
 use Rattle.simulator.specs.declared.walk.Step.{Step}

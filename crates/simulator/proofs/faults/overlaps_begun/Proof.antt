@@ -1,7 +1,7 @@
 -- `overlaps_begun` meets its contract. The invariant: no task passed has begun by then and overlaps.
 use Prim.Native.Nat.{_≤_, _-_}
 use mathlib.Core.Bool.{false}
-use mathlib.Core.Path.{_≡_, _∙_}
+use mathlib.Core.Path.{_≡_}
 use native.Mathlib.Omega.{arith}
 use Rattle.rules.specs.Count.{anyBelow}
 use Rattle.simulator.specs.Faults.{begunOverlaps}

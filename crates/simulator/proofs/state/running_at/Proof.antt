@@ -1,5 +1,5 @@
 -- `running_at` meets its contract. The invariant: the processors passed are told.
-use Prim.Native.Nat.{suc, _+_, _≤_, _-_}
+use Prim.Native.Nat.{suc, _≤_, _-_}
 use mathlib.Core.Path.{_≡_, _∙_, ap}
 use native.Mathlib.Numerals.{add-one}
 use native.Mathlib.Omega.{arith}

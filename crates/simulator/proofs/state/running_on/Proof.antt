@@ -1,7 +1,7 @@
 -- `running_on` meets its contract. The invariant: no task passed occupies the processor.
 use Prim.Native.Nat.{_≤_, _-_}
 use mathlib.Core.Bool.{false}
-use mathlib.Core.Path.{_≡_, _∙_}
+use mathlib.Core.Path.{_≡_}
 use native.Mathlib.Omega.{arith}
 use Rattle.rules.specs.Count.{anyBelow}
 use Rattle.rules.specs.Simulation.{occupies}
