@@ -4,6 +4,7 @@ set -euo pipefail
 cd "$(dirname "$0")/.."
 export PATH="$PWD/target/bin:$PATH"
 examples=$PWD/examples
+traces=$PWD/tests/traces
 folder=$(mktemp -d)
 trap 'rm -rf "$folder"' EXIT
 mkdir "$folder/run"
@@ -150,5 +151,51 @@ expect 'several papers, no room for the verdicts' 'framemark sheet paper zero.pa
     $'framemark: standard output: No space left on device\n'
 expect 'several papers, closed standard output' 'framemark sheet paper zero.paper >&-' '' \
     $'framemark: standard output: Bad file descriptor\n'
+
+# ---- framewatch: the traces of tests/traces, each with the numbers of its file .args if it has one
+for trace in "$traces"/*.trace; do
+    name=${trace%.trace}
+    numbers=$(cat "$name.args" 2> /dev/null || true)
+    expect "the trace $(basename "$name")" "framewatch $name.sheet $name.paper $numbers" "$(cat "$trace")"$'\n' ''
+done
+usage='usage: framewatch SHEET PAPER [STEPS [MADE]]'$'\n'
+trace=$(cat "$traces/course.trace")$'\n'
+heading=$(head -n 1 "$traces/course.trace")$'\n\n'
+ended=$'ended: the span is 8\n'
+no_number=$': no decimal number from 0 to 18446744073709551615\n'
+expect 'a trace' 'framewatch sheet paper' "$trace" ''
+expect 'as many steps as there are' 'framewatch sheet paper 6' "$trace" ''
+expect 'more steps than there are' 'framewatch sheet paper 18446744073709551615 0' "$trace" ''
+expect 'no step' 'framewatch sheet paper 0' "$heading"$'steps made: 0; more are left\n' ''
+expect 'no step after five' 'framewatch sheet paper 0 5' "$heading"$'steps made: 5; more are left\n' ''
+expect 'no step after the last' 'framewatch sheet paper 0 6' "$heading$ended" ''
+expect 'steps after the last' 'framewatch sheet paper 2 6' "$heading$ended" ''
+expect 'more steps made than there are' 'framewatch sheet paper 18446744073709551615 18446744073709551615' "$heading$ended" ''
+expect 'numbers with zeros before them' 'framewatch sheet paper 00 006' "$heading$ended" ''
+expect 'a trace with a refused paper' 'framewatch sheet zero.paper' $'(refused 12 2)\n(run 2 01 3)\n' ''
+expect 'a trace with a refused sheet' 'framewatch bad.sheet paper 0 3' $'(refused 3 3)\n(task 2 1000001 5)\n' ''
+expect 'a trace with an absent line' 'framewatch sheet short.paper' $'(refused 12 6)\n' ''
+expect 'a trace with control bytes' 'framewatch sheet control.paper' $'(refused 12 2)\n'"$escaped"$'\n' ''
+expect 'a trace with a paper of 100000 bytes' 'framewatch sheet 100000.paper' $'(refused 11 0)\n' ''
+expect 'a trace with a sheet of 40000 bytes' 'framewatch 40000.sheet paper' $'(refused 1 0)\n' ''
+expect 'a trace with a missing sheet' 'framewatch missing paper' '' $'framewatch: missing: No such file or directory\n'
+expect 'a trace with a missing paper' 'framewatch sheet missing 3' '' $'framewatch: missing: No such file or directory\n'
+expect 'a trace with a directory as paper' 'framewatch sheet folder' '' $'framewatch: folder: Is a directory\n'
+expect 'a trace with a name longer than the buffer' "framewatch sheet $long" '' $'framewatch: argument 2: File name too long\n'
+expect 'STEPS that is no number' 'framewatch sheet paper x' '' "framewatch: STEPS$no_number"
+expect 'STEPS that is empty' 'framewatch sheet paper ""' '' "framewatch: STEPS$no_number"
+expect 'STEPS with a sign' 'framewatch sheet paper +1' '' "framewatch: STEPS$no_number"
+expect 'STEPS with a space' 'framewatch sheet paper "1 "' '' "framewatch: STEPS$no_number"
+expect 'STEPS of 2 to the 64' 'framewatch sheet paper 18446744073709551616' '' "framewatch: STEPS$no_number"
+expect 'STEPS of 21 digits' 'framewatch sheet paper 184467440737095516150' '' "framewatch: STEPS$no_number"
+expect 'STEPS longer than the buffer' "framewatch sheet paper $long" '' "framewatch: STEPS$no_number"
+expect 'MADE that is no number' 'framewatch sheet paper 1 -1' '' "framewatch: MADE$no_number"
+expect 'STEPS and MADE that are no numbers, no sheet' 'framewatch missing paper a b' '' "framewatch: STEPS$no_number"
+expect 'no room for a trace' 'framewatch sheet paper > /dev/full' '' $'framewatch: standard output: No space left on device\n'
+expect 'no room for the refusal of a trace' 'framewatch sheet zero.paper > /dev/full' '' $'framewatch: standard output: No space left on device\n'
+expect 'closed standard output for a trace' 'framewatch sheet paper >&-' '' $'framewatch: standard output: Bad file descriptor\n'
+expect 'a trace, no argument' 'framewatch' '' "$usage"
+expect 'a trace, one argument' 'framewatch sheet' '' "$usage"
+expect 'a trace, five arguments' 'framewatch sheet paper 1 2 3' '' "$usage"
 
 echo "programs: $cases cases as expected"

@@ -1,5 +1,6 @@
 // Answers on standard output. Each function stops at the first write that fails, and returns whether all were made.
 ghost use Rattle.console.specs.LongEnough.{LongEnough};
+use crate::escape::write_escaped;
 use frames::Answer;
 use frames::Verdict;
 use libc::STDOUT_FILENO;
@@ -27,6 +28,22 @@ pub fn print_verdict(v: Verdict) -> bool {
         && print_number(v.blue_peak)
         && print_number(v.red_peak)
         && io::write_all(STDOUT_FILENO, b")\n")
+}
+
+// The verdict on a timetable, and the line at fault under a refusal. Nothing is printed for a line at fault that is absent or empty.
+pub fn print_marks<'a>(sheet: &'a [u8], paper: &'a [u8]) -> bool {
+    let v = frames::mark(sheet, paper);
+    if !print_verdict(v) {
+        return false;
+    }
+    if v.number == 0 {
+        return true;
+    }
+    let line = frames::fault_line(sheet, paper);
+    if line.len() == 0 {
+        return true;
+    }
+    write_escaped(STDOUT_FILENO, line) && io::write_all(STDOUT_FILENO, b"\n")
 }
 
 // The timetable that a planner wrote, or its refusal.

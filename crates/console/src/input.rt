@@ -75,3 +75,14 @@ pub fn read_argument(program: &[u8], i: usize, buf: &mut [u8]) -> Input
     }
     Input::Bytes(n)
 }
+
+// The text of the file that argument `i` names. Reports a failure.
+pub fn read_named(program: &[u8], i: usize, buf: &mut [u8]) -> Input
+    ensures { λ r. ⌜ Within r (now (buf .exit)) ⌝ }
+{
+    let mut path = io::buffer();
+    let Input::Bytes(n) = read_argument(program, i, &mut path) else {
+        return Input::Failed;
+    };
+    read_file(program, &path[..n], buf)
+}

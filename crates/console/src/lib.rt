@@ -5,6 +5,7 @@ mod escape;
 mod input;
 
 pub use answers::print_answer;
+pub use answers::print_marks;
 pub use answers::print_number;
 pub use answers::print_verdict;
 pub use errors::report;
@@ -13,3 +14,4 @@ pub use input::Input;
 pub use input::read_argument;
 pub use input::read_descriptor;
 pub use input::read_file;
+pub use input::read_named;

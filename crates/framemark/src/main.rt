@@ -1,29 +1,14 @@
 // framemark SHEET PAPER ..: marks the timetable of each file PAPER on the board sheet of the file SHEET.
 use console::Input;
+use console::print_marks;
 use console::print_verdict;
 use console::read_argument;
 use console::read_file;
+use console::read_named;
 use console::report;
 use console::write_escaped;
 use libc::STDERR_FILENO;
 use libc::STDOUT_FILENO;
-
-// Prints the verdict, and the line at fault under a refusal. Nothing is printed for a line at fault that is absent or empty.
-// Returns whether all was written.
-fn print_marks<'a>(sheet: &'a [u8], paper: &'a [u8]) -> bool {
-    let v = frames::mark(sheet, paper);
-    if !print_verdict(v) {
-        return false;
-    }
-    if v.number == 0 {
-        return true;
-    }
-    let line = frames::fault_line(sheet, paper);
-    if line.len() == 0 {
-        return true;
-    }
-    write_escaped(STDOUT_FILENO, line) && io::write_all(STDOUT_FILENO, b"\n")
-}
 
 // Prints a paper's name and its verdict on one line: one line for each paper, also where it is the sheet that is refused.
 // Returns whether all was written.
@@ -70,13 +55,9 @@ fn main() {
         io::write_all(STDERR_FILENO, b"usage: framemark SHEET PAPER ..\n");
         return;
     }
-    let mut path = io::buffer();
-    let Input::Bytes(n) = read_argument(b"framemark", 1, &mut path) else {
-        return;
-    };
     let mut text = io::large_buffer();
-    let Input::Bytes(m) = read_file(b"framemark", &path[..n], &mut text) else {
+    let Input::Bytes(n) = read_named(b"framemark", 1, &mut text) else {
         return;
     };
-    mark_arguments(&text[..m], count);
+    mark_arguments(&text[..n], count);
 }

@@ -61,7 +61,7 @@ pub record SimulatorDemands (sheet paper : List ℕ) (made steps : ℕ) (a : Sim
   -- for texts that are read, the state after the steps made, and each ending exactly where it comes; given steps enough, stopped exactly where the
   -- marker refuses by 15 to 17. Not: always steps left; the state of the faulty tick; the marker's first fault for the first faulty tick
   pub call : Simulated sheet paper made steps a
-  -- 1 to 4 at k exactly if the sheet has that fault first, at line k. Not: steps of an earlier call shown before it
+  -- 1 to 4 at k exactly if the sheet has that fault first, at line k. Not: one number for every sheet refused
   pub sheetFault : (w : Fault) (k : ℕ) → (a .progress ≡ refusedText (faultNumber inSheet w) k) ↔ SheetFault sheet w k
   -- for an accepted sheet, 11 to 14 at k exactly if the paper has that fault first, at line k. Not: a paper with no claim walked through
   pub paperFault : (I : Instance) → readInstance sheet ≡ accepted I → (w : Fault) (k : ℕ)

@@ -7,7 +7,7 @@ use lib.Dec.{eqb}
 use borrow.Author.Tests.{le-leb, lt-leb}
 use lib.ListN.{getD}
 use Rattle.rules.specs.Model.{blue, red, Instance, Task, fileAt, fileCount, taskAt, taskCount, limitOf, sideOf, timeOn, sizeAt, moveTimeAt}
-use Rattle.rules.specs.Model.{runAt, moveAt, colourOf, finishAt}
+use Rattle.rules.specs.Model.{runAt, startAt, moveAt, colourOf, finishAt}
 use Rattle.rules.specs.Scheduling.{reads, makes, finishOn}
 use Rattle.rules.specs.Limits.{processorCounts, runTimes}
 use Rattle.rules.specs.Promises.{In, WellFormed}
@@ -82,6 +82,12 @@ module _ (b : Shape) (L : Entries) where
   pub run-at : (i : ℕ) → i < b .tasks → runAt (scheduleFrom b L) i ≡ runFrom L i
   unfolding scheduleFrom
   run-at i h = getD-listBelow (b .tasks) (runFrom L) i _ h
+
+  pub processor-at : (i : ℕ) → i < b .tasks → runAt (scheduleFrom b L) i .processor ≡ L .processor i
+  processor-at i h = ap (λ r. r .processor) (run-at i h)
+
+  pub start-at : (i : ℕ) → i < b .tasks → startAt (scheduleFrom b L) i ≡ L .start i
+  start-at i h = ap (λ r. r .start) (run-at i h)
 
   pub move-at : (k : ℕ) → k < b .files → moveAt (scheduleFrom b L) k ≡ L .moveStart k
   unfolding scheduleFrom

@@ -1,22 +1,22 @@
--- The simulator's ticks, text refusals and numbers in words: turnLaw, overlapLaw, textExact, stepsCapped, numbersTell.
+-- The simulator's ticks, text refusals and numbers in words: turnLaw, textExact, stepsCapped, numbersTell.
 use Prim.Native.Nat.{ℕ, zero, suc, _+_, _≤_, _<_, min}
-use mathlib.Core.Bool.{true, false, not, _&&_, _||_}
+use mathlib.Core.Bool.{true, false, _&&_, _||_}
 use mathlib.Core.Path.{_≡_, refl, sym, ap, _∙_}
 use mathlib.Core.Logic.{_⊎_, inl, inr}
 use mathlib.Core.List.{List}
 use native.Mathlib.Omega.{arith}
 use lib.Dec.{leb, ltb, eqb}
-use borrow.Author.Tests.{ltb-true, ltb-false, lt-ltb, leb-true, leb-false, le-leb, lt-leb, eqb-true, eqb-false, eq-eqb, ne-eqb, not-true}
+use borrow.Author.Tests.{ltb-true, ltb-false, lt-ltb, leb-true, leb-false, le-leb, lt-leb, eqb-true, eq-eqb}
 use Rattle.rules.specs.Count.{anyBelow}
 use Rattle.rules.specs.Limits.{maxSteps}
-use Rattle.rules.specs.Model.{Colour, blue, red, Instance, taskCount, fileCount, Schedule, runAt, startAt, finishAt, moveAt, moved}
+use Rattle.rules.specs.Model.{Colour, blue, red, Instance, taskCount, fileCount, Schedule, startAt, moveAt, moved}
 use Rattle.rules.specs.Residency.{Hold, never, during, since, covers, holdOf}
-use Rattle.rules.specs.Validity.{overlap, refusedBy as refusal, judge, makespan}
+use Rattle.rules.specs.Validity.{refusedBy as refusal, judge, makespan}
 use Rattle.rules.specs.Text.{Fault, tooLong, malformed, outOfRange, undue, Source, inSheet, inTimetable, faultNumber}
 use Rattle.rules.specs.Calls.{mark}
 use Rattle.rules.specs.Simulation.{turns, runTurns, moveTurns, fileTurns, isTurn, faultAt, firstFaulty, Progress, refusedBy, stepsLeft, stopped, ended, numberOf, placeOf, Simulation, progressOf, watch, simulate, refusedText}
 use Rattle.rules.specs.SimulationPromises.{isFault, isOfText, FaultOf, by15, by16, by17}
-use Rattle.rules.specs.SimulationExact.{Begins, Ceases, Turn, runStarts, runEnds, moveStarts, moveEnds, holdStarts, holdEnds, TurnLaw, OverlapLaw, TextExact, StepsCapped, Told, NumbersTell}
+use Rattle.rules.specs.SimulationExact.{Begins, Ceases, Turn, runStarts, runEnds, moveStarts, moveEnds, holdStarts, holdEnds, TurnLaw, TextExact, StepsCapped, Told, NumbersTell}
 use Rattle.rules.proofs.Tests.{clash, and-true, or-left, or-right, by-or, is-false, or-yes}
 use Rattle.rules.proofs.CountLaws.{any-found}
 use Rattle.rules.proofs.JudgeLaws.{judged}
@@ -134,26 +134,9 @@ module _ (I : Instance) (P : Schedule) (t : ℕ) where
 pub turnLaw : TurnLaw
 turnLaw I P t = (turn-says I P t, says-turn I P t)
 
--- ---- 15's test
-
-pub overlapLaw : OverlapLaw
-unfolding overlap
-overlapLaw I P i j = (
-  (λ h.
-      let x = and-true (not (eqb i j) && eqb (runAt P i .processor) (runAt P j .processor) && ltb (startAt P i) (finishAt I P j)) _ h in
-      let y = and-true (not (eqb i j) && eqb (runAt P i .processor) (runAt P j .processor)) _ (x .0) in
-      let z = and-true (not (eqb i j)) _ (y .0) in
-      record {
-        differ = eqb-false i j (not-true _ (z .0));
-        processor = eqb-true _ _ (z .1);
-        shares = record { first = ltb-true _ _ (y .1); second = ltb-true _ _ (x .1) };
-      }),
-  (λ m. rw (ne-eqb i j (m .differ), eq-eqb _ _ (m .processor), lt-ltb _ _ (m .shares .first), lt-ltb _ _ (m .shares .second))),
-)
-
 -- ---- text refusals
 
-text-number : (s : Source) (w : Fault) → isOfText (faultNumber s w) ≡ true
+pub text-number : (s : Source) (w : Fault) → isOfText (faultNumber s w) ≡ true
 text-number inSheet tooLong = refl
 text-number inSheet malformed = refl
 text-number inSheet outOfRange = refl

@@ -1,5 +1,5 @@
 -- The simulator's calls: beside the marker's verdict, and one after another.
-use Prim.Native.Nat.{ℕ, _+_, _≤_, _<_, min}
+use Prim.Native.Nat.{ℕ, zero, suc, _+_, _≤_, _<_, min}
 use mathlib.Core.Bool.{true, false, _&&_}
 use mathlib.Core.Path.{_≡_, refl, sym, _∙_, ap}
 use mathlib.Core.List.{List}
@@ -7,6 +7,7 @@ use native.Mathlib.Omega.{arith}
 use native.Mathlib.Decide.{decLe}
 use lib.Dec.{eqb}
 use borrow.Author.Tests.{eqb-true, eq-eqb}
+use Rattle.rules.specs.Count.{countWhere}
 use Rattle.rules.specs.Limits.{maxSteps}
 use Rattle.rules.specs.Model.{Instance, Schedule}
 use Rattle.rules.specs.Validity.{Claim, Verdict, refusedBy as refusal, judge, makespan, trueClaim}
@@ -14,17 +15,20 @@ use Rattle.rules.specs.Text.{Fault, tooLong, malformed, outOfRange, undu
 use Rattle.rules.specs.InstanceText.{InstanceRead, refused, accepted, readInstance}
 use Rattle.rules.specs.ScheduleText.{ScheduleRead, refused as refusedTimetable, read, readSchedule}
 use Rattle.rules.specs.Calls.{mark}
-use Rattle.rules.specs.Promises.{WellFormed, Spellable}
-use Rattle.rules.specs.Simulation.{stepCount, refusedBy, stepsLeft, stopped, ended, leftOf, Simulation, progressOf, watch, refusedText, simulate}
-use Rattle.rules.specs.SimulationPromises.{isFault, isOfText, Agrees, SimulatorAgrees, GoesOn, CappedLaw, LeftLaw, PastLaw, TextLaw, SimulatorLaw}
+use Rattle.rules.specs.Promises.{WellFormed, Spellable, First}
+use Rattle.rules.specs.Simulation.{isTurn, faultAt, firstFaulty, stepCount, stateAfter, refusedBy, stepsLeft, stopped, ended, leftOf, Simulation, progressOf, watch, refusedText, simulate}
+use Rattle.rules.specs.SimulationPromises.{isFault, isOfText, Agrees, SimulatorAgrees, GoesOn, StaysLaw, NextTick, CappedLaw, LeftLaw, PastLaw, TextLaw, SimulatorLaw}
 use Rattle.rules.proofs.Tests.{split, clash, and-true}
+use Rattle.rules.proofs.WhereLaws.{count-yes, count-mono, count-least}
 use Rattle.rules.proofs.JudgeLaws.{Judged, by15, by16, by17, by18, by0, judged}
 use Rattle.rules.proofs.CompleteLaws.{Complete, spellable-complete}
+use Rattle.rules.proofs.PlaceLaws.{first-unique}
 use Rattle.rules.proofs.SheetLaws.{sheetExact}
 use Rattle.rules.proofs.TimetableLaws.{timetable-exact}
 use Rattle.rules.proofs.MarkerLaws.{mark-sheet, mark-timetable, mark-judges}
-use Rattle.rules.proofs.TickFaultLaws.{judged-fault, judged-clean, first-faulty, some-faulty}
-use Rattle.rules.proofs.WatchLaws.{found, progress, watch-progress, watch-made, progress-stops, progress-ends, watch-left, watch-past, watch-late, few-steps, stepLaw}
+use Rattle.rules.proofs.TickFaultLaws.{fault-number, judged-fault, judged-clean, judged-over, first-faulty, some-faulty}
+use Rattle.rules.proofs.TickLaws.{stepBound}
+use Rattle.rules.proofs.WatchLaws.{found, progress, watch-progress, watch-made, watch-state, progress-stops, progress-ends, watch-left, watch-past, watch-late, few-steps, stepLaw}
 use Rattle.rules.proofs.ProgressLaws.{progressLaw}
 
 -- ---- the two texts by cases
@@ -101,6 +105,63 @@ goesOn sheet timetable made steps more one = go (texts sheet timetable)
         ∙ ap (λ m. watch I P (m + min more maxSteps)) m
         ∙ goes-on I P made steps more (steps-bound sheet timetable I P c e f) one
         ∙ sym (s made (steps + more))
+
+module _ (sheet timetable : List ℕ) (made steps : ℕ) where
+  -- the answer to a call, and to one that names its steps made and no more
+  abbrev call : Simulation
+  call = simulate sheet timetable made steps
+
+  abbrev again : Simulation
+  again = simulate sheet timetable (call .made) 0
+
+  same-answer : again ≡ call → (again .made ≡ call .made) × (again .state ≡ call .state)
+  same-answer e = (ap (λ a. a .made) e, ap (λ a. a .state) e)
+
+  stays : Texts sheet timetable → (again .made ≡ call .made) × (again .state ≡ call .state)
+  stays (badSheet w k e) = same-answer (simulate-sheet sheet timetable w k e (call .made) 0 ∙ sym (simulate-sheet sheet timetable w k e made steps))
+  stays (badTimetable I w k e f) =
+      same-answer (simulate-timetable sheet timetable I w k e f (call .made) 0 ∙ sym (simulate-timetable sheet timetable I w k e f made steps))
+  stays (good I P c e f) =
+      let w = made + min steps maxSteps in
+      let v = call .made + min 0 maxSteps in
+      let p : call ≡ watch I P w = simulate-read sheet timetable I P c e f made steps in
+      let q : again ≡ watch I P v = simulate-read sheet timetable I P c e f (call .made) 0 in
+      let m : watch I P v .made ≡ watch I P w .made = omega (arith, watch-made I P v, watch-made I P w, ap (λ a. a .made) p) in (
+        ap (λ a. a .made) q ∙ m ∙ sym (ap (λ a. a .made) p),
+        ap (λ a. a .state) q ∙ watch-state I P v ∙ ap (stateAfter I P) m ∙ sym (watch-state I P w) ∙ sym (ap (λ a. a .state) p),
+      )
+
+pub staysLaw : StaysLaw
+staysLaw sheet timetable made steps = stays sheet timetable made steps (texts sheet timetable)
+
+module _ (I : Instance) (W : WellFormed I) (P : Schedule) (claim : Claim) (s : Spellable I P claim) where
+  -- the steps made are those up to the time of the last
+  made-ticks : (n : ℕ) → 0 < n → n ≤ stepCount I P → countWhere (suc (watch I P n .state .time)) (isTurn I P) ≡ n
+  made-ticks zero h l = absurd (omega arith)
+  made-ticks (suc n) h l =
+      let x = stepLaw I W P claim s (suc n) .some n (omega (arith, watch-made I P (suc n))) in
+      rw (x .2 .time) (count-yes (isTurn I P) (x .0) (x .1 .holds) ∙ ap suc (x .1 .below))
+
+  next-tick : (n : ℕ) → watch I P (suc n) .made ≡ suc n
+      → First (λ u. (isTurn I P u ≡ true) × (0 < n → watch I P n .state .time < u)) (watch I P (suc n) .state .time)
+  next-tick n h =
+      let x = stepLaw I W P claim s (suc n) .some n h in
+      let l : n ≤ stepCount I P = omega (arith, watch-made I P (suc n)) in
+      let b = x .1 .below in
+      rw (x .2 .time) (record {
+        holds = (x .1 .holds, λ m. count-least (isTurn I P) (suc (watch I P n .state .time)) (x .0) (x .1 .holds) (omega (arith, made-ticks n m l)));
+        least = λ u y. count-least (isTurn I P) (x .0) u (y .0) (elim (decLe 1 n) [
+          | yes m ↦ omega (arith, made-ticks n m l, count-mono (isTurn I P) (suc (watch I P n .state .time)) u (y .1 m))
+          | no m ↦ omega arith
+        ]);
+      })
+
+pub nextTick : NextTick
+nextTick sheet timetable I P c e f made h =
+    let s = simulate-read sheet timetable I P c e f in
+    let p : simulate sheet timetable made 0 ≡ watch I P made = s made 0 ∙ ap (watch I P) (omega arith) in
+    let q : simulate sheet timetable made 1 ≡ watch I P (suc made) = s made 1 ∙ ap (watch I P) (omega arith) in
+    rw (p, q) (next-tick I (sheet-formed sheet timetable I P c e f) P c (read-spellable sheet timetable I P c e f) made (rw q at h))
 
 -- so many steps made are past every stop and end
 pub watch-capped : (I : Instance) → WellFormed I → (P : Schedule) (claim : Claim) → Spellable I P claim → (made steps : ℕ)
@@ -186,6 +247,7 @@ text-agrees sheet timetable s w k unread = record {
   ofFault = ((λ h. clash h (text-fault s w)), (λ x. not-stopped (x .2)));
   ofEnd = λ I P claim e f h. absurd (unread I P claim e f);
   ofSpan = λ h. clash (eq-eqb _ _ h) (text-zero s w);
+  of17 = λ h. clash (ap isFault h) (text-fault s w);
 }
 
 -- a judgement of number 0 has the true span
@@ -217,6 +279,14 @@ module _ (I : Instance) (W : WellFormed I) (P : Schedule) (c : Claim) (s : Spell
       (λ e. absurd (judged-clean I W P C c (judged I P c) h _ (first-faulty I W P C e .holds)))
       (λ e. progress-ends I P w e (omega arith))
 
+  over-stops : judge I P c .number ≡ 17 → progressOf I P w ≡ stopped 17 (judge I P c .place)
+  over-stops h =
+      let x = judged-over I W P C c (judged I P c) h in
+      let e = some-faulty I W P C (judge I P c .place) (x .0 .holds) in
+      let a : firstFaulty I P ≡ judge I P c .place = first-unique (first-faulty I W P C e) (x .0) in
+      let b : faultAt I P (firstFaulty I P) ≡ 17 = ap (faultAt I P) a ∙ fault-number I P (judge I P c .place) (x .1) in
+      progress-stops I P w e enough ∙ (λ i. stopped (b i) (a i))
+
   stops-fault : (number tick : ℕ) → progressOf I P w ≡ stopped number tick → isFault (judge I P c .number) ≡ true
   stops-fault number tick q = split (isFault (judge I P c .number))
       (λ h. h)
@@ -238,6 +308,7 @@ module _ (sheet timetable : List ℕ) (I : Instance) (P : Schedule) (c : Claim) 
         ofFault = (fault-stops I W P c s w enough, λ x. stops-fault I W P c s w enough (x .0) (x .1) (x .2));
         ofEnd = λ J Q d a b h. clean-ends I W P c s w enough h ∙ ap ended (same-span J Q d a b);
         ofSpan = λ h. clean-ends I W P c s w enough (judged-zero I P c (judged I P c) h) ∙ ap ended (span-true I P c (judged I P c) h);
+        of17 = over-stops I W P c s w enough;
       }
 
 pub simulatorAgrees : SimulatorAgrees
@@ -287,6 +358,7 @@ simulatorLaw sheet timetable made steps = record {
   progress = λ I P c e f.
       let s = simulate-read sheet timetable I P c e f made steps in
       rw s (progressLaw I (sheet-formed sheet timetable I P c e f) P c (read-spellable sheet timetable I P c e f) (made + min steps maxSteps));
+  bounded = λ I P c e f. stepBound I (sheet-formed sheet timetable I P c e f) P c (read-spellable sheet timetable I P c e f);
   ofText = textLaw sheet timetable made steps;
   agrees = simulatorAgrees sheet timetable made steps;
 }

@@ -16,7 +16,7 @@ use Rattle.rules.specs.SimulationPromises.{LaterStart, EarlyTick, earlyM
 use Rattle.rules.proofs.Tests.{split, clash, and-true, or-yes}
 use Rattle.rules.proofs.CountLaws.{max-bound, any-found, any-some, first-holds, first-found, first-none}
 use Rattle.rules.proofs.CompleteLaws.{Complete, nothing-left}
-use Rattle.rules.proofs.ValidLaws.{early-moved, early-unmoved, over-limit}
+use Rattle.rules.proofs.ValidLaws.{overlap-meets, meets-overlap, overlaps-exact, early-moved, early-unmoved, over-limit, apart-exact}
 use Rattle.rules.proofs.JudgeLaws.{settled, NoneBelow, Judged, by15 as judged15, by16 as judged16, by17 as judged17, by18 as judged18, by0 as judged0}
 
 -- ---- 16, of a file
@@ -53,12 +53,24 @@ module _ (I : Instance) (P : Schedule) (t : ℕ) where
       let r = any-found (taskCount I) (taskShares I P t) h in
       let q = any-found (taskCount I) (sharesFrom I P t (r .0)) (r .2) in
       let x = and-true (overlap I P (r .0) (q .0)) _ (q .2) in
-      record { one = r .0; other = q .0; oneExists = r .1; otherExists = q .1; shares = x .0; later = eqb-true _ _ (x .1) }
+      let m = overlap-meets I P (r .0) (q .0) (x .0) in
+      record {
+        one = r .0;
+        other = q .0;
+        oneExists = r .1;
+        otherExists = q .1;
+        differ = m .differ;
+        processor = m .processor;
+        shares = m .shares;
+        later = eqb-true _ _ (x .1);
+      }
 
   later-shares : LaterStart I P t → sharesAt I P t ≡ true
   unfolding sharesAt
-  later-shares x = any-some (taskCount I) (taskShares I P t) (x .one) (x .oneExists)
-      (any-some (taskCount I) (sharesFrom I P t (x .one)) (x .other) (x .otherExists) (rw (x .shares) (eq-eqb _ _ (x .later))))
+  later-shares x =
+      let m = meets-overlap I P (x .one) (x .other) (record { differ = x .differ; processor = x .processor; shares = x .shares }) in
+      any-some (taskCount I) (taskShares I P t) (x .one) (x .oneExists)
+      (any-some (taskCount I) (sharesFrom I P t (x .one)) (x .other) (x .otherExists) (rw m (eq-eqb _ _ (x .later))))
 
   early-tick : earlyAt I P t ≡ true → EarlyTick I P t
   unfolding earlyAt
@@ -149,19 +161,18 @@ module _ (I : Instance) (P : Schedule) (t : ℕ) where
   of-later : LaterStart I P t → Faulty I P t
   of-later x = record { number = 15; fault = by15 x }
 
-  of-early : EarlyTick I P t → Faulty I P t
-  of-early x = go fault
+  of-some : ((EarlyTick I P t → ⊥) → (OverLimit I P t → ⊥) → ⊥) → Faulty I P t
+  of-some h = go fault
     where
       go : {n : ℕ} → Fault n → Faulty I P t
       go {n = n} (some f) = record { number = n; fault = f }
-      go (none a b d) = absurd (b x)
+      go (none a b d) = absurd (h b d)
+
+  of-early : EarlyTick I P t → Faulty I P t
+  of-early x = of-some (λ b d. b x)
 
   pub of-over : OverLimit I P t → Faulty I P t
-  of-over x = go fault
-    where
-      go : {n : ℕ} → Fault n → Faulty I P t
-      go {n = n} (some f) = record { number = n; fault = f }
-      go (none a b d) = absurd (d x)
+  of-over x = of-some (λ b d. d x)
 
 -- ---- beside the marker's judgement
 
@@ -192,12 +203,13 @@ module _ (I : Instance) (W : WellFormed I) (P : Schedule) (complete : Complete I
       omega (arith, closing-is I P, finish-span I P (fileAt I k .reader) (W .exists k l), e)
   fault-closes t (by17 a b o) = omega (arith, closing-is I P, over-settled t o)
 
-  -- a timetable that passes the marker's three tests has no faulty tick
-  module _ (apart : NoneBelow (taskCount I) (overlaps I P)) (timely : NoneBelow (taskCount I) (readsEarly I P)) (under : NoneBelow (settled I P) (over I P)) where
+  -- a timetable that passes the marker's test by 15 has no tick at fault by 15
+  module _ (apart : NoneBelow (taskCount I) (overlaps I P)) where
     no-later : (t : ℕ) → LaterStart I P t → ⊥
-    unfolding overlaps
-    no-later t x = clash (any-some (taskCount I) (overlap I P (x .one)) (x .other) (x .otherExists) (x .shares)) (apart (x .one) (x .oneExists))
+    no-later t x = apart-exact I W P .0 apart (x .one) (x .other) (x .oneExists) (x .otherExists) (x .differ) (x .processor) (x .shares)
 
+  -- nor by 16, where it passes that test
+  module _ (timely : NoneBelow (taskCount I) (readsEarly I P)) where
     early-file : (k : ℕ) → k < fileCount I → early I P k ≡ true → ⊥
     unfolding readsEarly
     early-file k l e =
@@ -208,19 +220,31 @@ module _ (I : Instance) (W : WellFormed I) (P : Schedule) (complete : Complete I
     no-early t (earlyMove k l m a e) = early-file k l (early-move I P k m a)
     no-early t (earlyStart k l a e) = early-file k l (early-start I P k a)
 
+  -- and one that passes all three has no faulty tick
+  module _ (apart : NoneBelow (taskCount I) (overlaps I P)) (timely : NoneBelow (taskCount I) (readsEarly I P)) (under : NoneBelow (settled I P) (over I P)) where
     no-over : (t : ℕ) → OverLimit I P t → ⊥
     no-over t o = clash (limit-over I P t o) (under t (over-settled t o))
 
     pub clean : (t : ℕ) → Faulty I P t → ⊥
-    clean t f = no-fault I P t (no-later t) (no-early t) (no-over t) (f .fault)
+    clean t f = no-fault I P t (no-later apart t) (no-early timely t) (no-over t) (f .fault)
 
   -- and one that does not has one
   found15 : (i : ℕ) → i < taskCount I → overlaps I P i ≡ true → (t : ℕ) × Faulty I P t
-  unfolding overlaps
   found15 i l e =
-      let r = any-found (taskCount I) (overlap I P i) e in
-      let t = max (startAt P i) (startAt P (r .0)) in
-      (t, of-later I P t (record { one = i; other = r .0; oneExists = l; otherExists = r .1; shares = r .2; later = refl }))
+      let x = overlaps-exact I P i l .0 e in
+      let t = max (startAt P i) (startAt P (x .other)) in (
+        t,
+        of-later I P t (record {
+          one = i;
+          other = x .other;
+          oneExists = l;
+          otherExists = x .otherExists;
+          differ = x .differs;
+          processor = x .processor;
+          shares = x .shares;
+          later = refl;
+        }),
+      )
 
   found16 : (j : ℕ) → readsEarly I P j ≡ true → (t : ℕ) × Faulty I P t
   unfolding readsEarly
@@ -242,6 +266,20 @@ module _ (I : Instance) (W : WellFormed I) (P : Schedule) (complete : Complete I
   judged-clean claim (judged17 s a b f) e t = clash refl e
   judged-clean claim (judged18 a b d x) e t = clean a b d t
   judged-clean claim (judged0 p) e t = clean (p .apart) (p .timely) (p .under) t
+
+  -- where the marker says 17 its instant is the first faulty tick
+  pub judged-over : (claim : Claim) {v : Verdict} → Judged I P claim v → v .number ≡ 17 → First (Faulty I P) (v .place) × FaultOf I P (v .place) 17
+  judged-over claim (judged15 i f) e = absurd (omega arith)
+  judged-over claim (judged16 j a f) e = absurd (omega arith)
+  judged-over claim (judged17 t a b f) e = (
+    record {
+      holds = of-over I P t (over-limit I P t (f .holds));
+      least = λ m g. split (over I P m) (f .least m) (λ n. no-fault I P m (no-later a m) (no-early b m) (λ o. clash (limit-over I P m o) n) (g .fault));
+    },
+    by17 (no-later a t) (no-early b t) (over-limit I P t (f .holds)),
+  )
+  judged-over claim (judged18 a b d x) e = absurd (omega arith)
+  judged-over claim (judged0 p) e = absurd (omega arith)
 
   -- ---- the first faulty tick
 

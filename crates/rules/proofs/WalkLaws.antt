@@ -7,7 +7,7 @@ use native.Mathlib.Decide.{decLe}
 use lib.Dec.{leb}
 use lib.ListN.{getD}
 use borrow.Author.Tests.{ltb-true, ltb-false, lt-ltb, leb-true, eq-eqb}
-use Rattle.rules.specs.Count.{sumBelow, anyBelow}
+use Rattle.rules.specs.Count.{sumBelow, countWhere, anyBelow}
 use Rattle.rules.specs.Model.{Colour, blue, red, Instance, taskCount, fileAt, fileCount, sizeAt, Schedule, startAt, moveAt, moved}
 use Rattle.rules.specs.Residency.{Hold, never, during, since, holdOf, covers, isHeld, held}
 use Rattle.rules.specs.Validity.{OverLimit, makespan}
@@ -16,7 +16,7 @@ use Rattle.rules.specs.Simulation.{turns, runTurns, moveTurns, fileTurns
 use Rattle.rules.specs.SimulationPromises.{earlyMove, earlyStart, FaultOf, by15, by16, by17, Faulty, FaultTurn}
 use Rattle.rules.proofs.Tests.{split, clash, and-true, or-left, or-right}
 use Rattle.rules.proofs.CountLaws.{sum-cong, sum-less, sum-zero, any-some}
-use Rattle.rules.proofs.WhereLaws.{countWhere, length-where, count-yes, count-gap, count-mono, where-place}
+use Rattle.rules.proofs.WhereLaws.{length-where, count-yes, count-gap, count-mono, where-place}
 use Rattle.rules.proofs.CompleteLaws.{Complete}
 use Rattle.rules.proofs.PlaceLaws.{first-unique}
 use Rattle.rules.proofs.TickFaultLaws.{of-over, first-faulty, some-faulty}

@@ -2,17 +2,17 @@
 use Prim.Native.Nat.{ℕ, suc, _+_, _*_, _≤_, _<_, max, min}
 use mathlib.Core.Bool.{Bool, true, false, _&&_}
 use mathlib.Core.Path.{_≡_, refl, sym, _∙_, ap}
-use mathlib.Core.Logic.{_↔_, _≢_}
+use mathlib.Core.Logic.{_↔_}
 use native.Mathlib.Omega.{arith}
 use native.Mathlib.Decide.{decLe, ℕ-discrete}
 use lib.Dec.{leb, ltb, eqb}
 use lib.ListN.{getD}
-use borrow.Author.Tests.{ltb-true, lt-ltb, le-ltb, le-leb, leb-true, lt-leb, eqb-true, eq-eqb, ne-eqb}
+use borrow.Author.Tests.{ltb-true, lt-ltb, le-ltb, le-leb, leb-true, lt-leb, eqb-true, eq-eqb}
 use Rattle.rules.specs.Count.{firstBelow}
 use Rattle.rules.specs.Limits.{maxTasks, maxFiles, allProcessors}
-use Rattle.rules.specs.Model.{Colour, blue, red, Instance, taskCount, fileCount, Schedule, runAt, startAt, finishAt}
+use Rattle.rules.specs.Model.{Colour, blue, red, Instance, taskCount, fileCount, Schedule, runAt, startAt}
 use Rattle.rules.specs.Residency.{isHeld}
-use Rattle.rules.specs.Validity.{Claim, Occupies, overlap, makespan}
+use Rattle.rules.specs.Validity.{Claim, ShareInstant, Occupies, makespan}
 use Rattle.rules.specs.Promises.{WellFormed, Spellable}
 use Rattle.rules.specs.Simulation.{occupies, runningOn, memoryNumber, heldIn, stateAt, isTurn, faultAt, closing, firstFaulty, stepTicks, stepCount, stateAfter, Progress, stepsLeft, stopped, ended, leftOf, progressOf, watch}
 use Rattle.rules.specs.SimulationPromises.{isIn, Shows, Nth, StepLaw, by15, Faulty}
@@ -131,15 +131,8 @@ occupies-says I P p t i h =
 says-occupies : (I : Instance) (P : Schedule) (p t i : ℕ) → runAt P i .processor ≡ p → Occupies I P i t → occupies I P p t i ≡ true
 says-occupies I P p t i e o = rw (eq-eqb _ _ e, le-leb _ _ (o .begun), lt-ltb _ _ (o .unfinished))
 
-two-occupy : (I : Instance) (P : Schedule) (i j t : ℕ) → i ≢ j → runAt P i .processor ≡ runAt P j .processor → Occupies I P i t → Occupies I P j t → overlap I P i j ≡ true
-unfolding overlap
-two-occupy I P i j t d e a b =
-    rw (
-      ne-eqb i j d,
-      eq-eqb _ _ e,
-      lt-ltb (startAt P i) (finishAt I P j) (omega (arith, a .begun, b .unfinished)),
-      lt-ltb (startAt P j) (finishAt I P i) (omega (arith, b .begun, a .unfinished)),
-    )
+two-occupy : (I : Instance) (P : Schedule) (i j t : ℕ) → Occupies I P i t → Occupies I P j t → ShareInstant I P i j
+two-occupy I P i j t a b = record { first = omega (arith, a .begun, b .unfinished); second = omega (arith, b .begun, a .unfinished) }
 
 -- the first of those that occupy a processor
 module _ (I : Instance) (P : Schedule) (t p : ℕ) where
@@ -179,7 +172,9 @@ module _ (I : Instance) (P : Schedule) (t p : ℕ) where
             other = i;
             oneExists = m;
             otherExists = l;
-            shares = two-occupy I P lowest i t d (x .0 ∙ sym e) (x .1) o;
+            differ = d;
+            processor = x .0 ∙ sym e;
+            shares = two-occupy I P lowest i t (x .1) o;
             later = refl;
           });
         }))

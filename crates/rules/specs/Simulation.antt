@@ -122,7 +122,7 @@ isFaulty I P t = ltb 0 (faultAt I P t)
 
 -- ---- stepping
 
--- a tick from which on nothing starts, ends or is faulty
+-- of a complete timetable: a tick from which on nothing starts, ends or is faulty
 unfoldable pub closing : Instance → Schedule → ℕ
 closing I P = suc (max (makespan I P) (max (horizon I P blue) (horizon I P red)))
 

@@ -1,4 +1,4 @@
--- More of what the simulator promises: its ticks, its text refusals and its numbers in words.
+-- More of what the simulator promises: its ticks, its text refusals and its numbers in words; and that the contract's record leaves one answer.
 use Prim.Native.Nat.{ℕ, suc, _<_, min}
 use mathlib.Core.Bool.{Bool, true, false, _||_}
 use mathlib.Core.Path.{_≡_}
@@ -6,12 +6,12 @@ use mathlib.Core.Logic.{_↔_}
 use mathlib.Core.List.{List}
 use lib.Dec.{eqb}
 use Rattle.rules.specs.Limits.{maxSteps}
-use Rattle.rules.specs.Model.{Colour, Instance, taskCount, fileCount, Schedule, runAt, startAt, finishAt, moveAt, moved, moveEnd}
+use Rattle.rules.specs.Model.{Colour, Instance, taskCount, fileCount, Schedule, startAt, finishAt, moveAt, moved, moveEnd}
 use Rattle.rules.specs.Residency.{isHeld}
-use Rattle.rules.specs.Validity.{ShareInstant, overlap, refusedBy as refusal}
+use Rattle.rules.specs.Validity.{refusedBy as refusal}
 use Rattle.rules.specs.Calls.{mark}
 use Rattle.rules.specs.Simulation.{isTurn, refusedBy, stepsLeft, stopped, ended, numberOf, placeOf, leftOf, spanOf, Simulation, refusedText, simulate}
-use Rattle.rules.specs.SimulationPromises.{isFault, isOfText}
+use Rattle.rules.specs.SimulationPromises.{isFault, isOfText, Simulated}
 
 -- something that is so at some ticks begins at tick t: it is so then, and not at the tick before
 pub record Begins (f : ℕ → Bool) (t : ℕ) : Type 0 where
@@ -34,26 +34,20 @@ pub data Turn (I : Instance) (P : Schedule) (t : ℕ) : Type 0 where
   holdStarts : (c : Colour) (k : ℕ) → k < fileCount I → Begins (λ u. isHeld I P c u k) t → Turn I P t
   holdEnds : (c : Colour) (k : ℕ) → k < fileCount I → Ceases (λ u. isHeld I P c u k) t → Turn I P t
 
--- the ticks of the steps are exactly these. Not: every tick; the ends of holds left out; a tick for a hold that never was
+-- the ticks of the steps are exactly these.
+-- Not: every tick; the ends of holds left out; a tick for a hold that never was. It fixes the ticks
 abbrev pub TurnLaw : Type 0
 TurnLaw = (I : Instance) (P : Schedule) (t : ℕ) → (isTurn I P t ≡ true) ↔ Turn I P t
 
--- 15's test in words: two tasks on one processor that share an instant
-pub record TwoRuns (I : Instance) (P : Schedule) (i j : ℕ) : Type 0 where
-  pub differ : i ≡ j → ⊥
-  pub processor : runAt P i .processor ≡ runAt P j .processor
-  pub shares : ShareInstant I P i j
-
-abbrev pub OverlapLaw : Type 0
-OverlapLaw = (I : Instance) (P : Schedule) (i j : ℕ) → (overlap I P i j ≡ true) ↔ TwoRuns I P i j
-
--- a text is refused exactly where the marker refuses it by 1 to 4 or 11 to 14, with its number and place. Not: refused on each sheet
+-- a text is refused exactly where the marker refuses it by 1 to 4 or 11 to 14, with its number and place.
+-- Not: refused on each sheet. Alone it is met by any state beside a refusal; TextLaw rules that out
 abbrev pub TextExact : Type 0
 TextExact =
     (sheet timetable : List ℕ) (made steps number place : ℕ) →
     (simulate sheet timetable made steps .progress ≡ refusedBy number place) ↔ ((mark sheet timetable ≡ refusal number place) × (isOfText number ≡ true))
 
--- over 1024 steps count as 1024
+-- over 1024 steps count as 1024.
+-- Not: a call of more refused. Alone it is met by one fixed answer; SimulatorLaw rules that out
 abbrev pub StepsCapped : Type 0
 StepsCapped = (sheet timetable : List ℕ) (made steps : ℕ) → simulate sheet timetable made steps ≡ simulate sheet timetable made (min steps maxSteps)
 
@@ -68,6 +62,13 @@ pub record Told (a : Simulation) : Type 0 where
   pub goesOn : numberOf (a .progress) ≡ 0 → leftOf (a .progress) ≡ 1 → a .progress ≡ stepsLeft
   pub ends : numberOf (a .progress) ≡ 0 → leftOf (a .progress) ≡ 0 → a .progress ≡ ended (spanOf (a .progress))
 
--- demand 1. Not: a number of its own; steps made shown with a text refusal; 0 for a stop
+-- demand 1. Not: a number of its own; steps made shown with a text refusal; 0 for a stop. Alone it is met where steps are always left;
+-- SimulatorLaw rules that out
 abbrev pub NumbersTell : Type 0
 NumbersTell = (sheet timetable : List ℕ) (made steps : ℕ) → Told (simulate sheet timetable made steps)
+
+-- `Simulated` leaves one answer.
+-- Not: a `Simulated` that two answers meet. Alone it is met where no answer meets it; SimulatorLaw rules that out
+abbrev pub SimulatedOnly : Type 0
+SimulatedOnly =
+    (sheet timetable : List ℕ) (made steps : ℕ) (a : Simulation) → Simulated sheet timetable made steps a → a ≡ simulate sheet timetable made steps

@@ -13,7 +13,7 @@ use Rattle.rules.specs.InstanceText.{instanceLine, readRest, readLines, 
 use Rattle.rules.specs.ScheduleText.{scheduleLine, readEnd, readClaim, readMoves, readRuns, readSchedule}
 use Rattle.rules.specs.Validity.{overlap, over, makespan}
 use Rattle.rules.specs.Simulation.{Progress, refusedBy, stepsLeft, stopped, ended, numberOf, placeOf, leftOf, spanOf, runningOn, heldIn, stateAt, isTurn, sharesAt, earlyAt, faultAt, closing, firstFaulty, stepTicks, stepCount, progressOf, watch, simulate}
-use Rattle.rules.specs.Examples.{sheet, sheetA}
+use Rattle.rules.specs.Examples.{sheet, sheetA, textA}
 
 -- a call with its texts, the steps made and those to make; how it ends, the steps made in all, the time, what the first processors run and
 -- where the first files are held. All behind them is 0.
@@ -67,10 +67,6 @@ paper : String → String → String → String → List ℕ
 paper third first second claim =
     ascii "(run 1 2 0)\n(run 2 1 3)\n" ++ ascii third ++ ascii first ++ ascii second ++ ascii claim
 
-paperA : List ℕ
-unfolding paper
-paperA = paper "(run 3 1 6)\n" "(move 1 2 2)\n" "(move 1 3 4)\n" "(claim 8 5 5)\n"
-
 row : List ℕ → List ℕ → ℕ → ℕ → Progress → ℕ → ℕ → List ℕ → List ℕ → Row
 row s p made steps progress done time running contents = record {
   sheet = s;
@@ -92,27 +88,27 @@ relayed : List ℕ
 relayed = ascii "(run 1 1 0)\n(run 2 1 2)\n(claim 2 3 0)\n"
 
 pub table : List Row
-unfolding sheet sheetA sheetF paper paperA row relays relayed
+unfolding sheet sheetA sheetF textA paper row relays relayed
 table =
     -- a, step by step: ticks 0, 2, 3, 4, 6, 8. Before the first
-    row sheetA paperA 0 0 stepsLeft 0 0 [] []
+    row sheetA textA 0 0 stepsLeft 0 0 [] []
     -- task 1 runs on the red processor, and both its files are in red
-    ∷ row sheetA paperA 0 1 stepsLeft 1 0 (0 ∷ 1 ∷ []) (2 ∷ 2 ∷ [])
+    ∷ row sheetA textA 0 1 stepsLeft 1 0 (0 ∷ 1 ∷ []) (2 ∷ 2 ∷ [])
     -- it is finished; the first file moves, and is in both
-    ∷ row sheetA paperA 0 2 stepsLeft 2 2 [] (3 ∷ 2 ∷ [])
-    ∷ row sheetA paperA 0 3 stepsLeft 3 3 (2 ∷ []) (1 ∷ 2 ∷ [])
-    ∷ row sheetA paperA 0 4 stepsLeft 4 4 (2 ∷ []) (1 ∷ 3 ∷ [])
-    ∷ row sheetA paperA 0 5 stepsLeft 5 6 (3 ∷ []) (0 ∷ 1 ∷ [])
+    ∷ row sheetA textA 0 2 stepsLeft 2 2 [] (3 ∷ 2 ∷ [])
+    ∷ row sheetA textA 0 3 stepsLeft 3 3 (2 ∷ []) (1 ∷ 2 ∷ [])
+    ∷ row sheetA textA 0 4 stepsLeft 4 4 (2 ∷ []) (1 ∷ 3 ∷ [])
+    ∷ row sheetA textA 0 5 stepsLeft 5 6 (3 ∷ []) (0 ∷ 1 ∷ [])
     -- the sixth step is the last; more give the same
-    ∷ row sheetA paperA 0 6 (ended 8) 6 8 [] []
-    ∷ row sheetA paperA 0 7 (ended 8) 6 8 [] []
+    ∷ row sheetA textA 0 6 (ended 8) 6 8 [] []
+    ∷ row sheetA textA 0 7 (ended 8) 6 8 [] []
     -- going on from three steps made; from there past the end
-    ∷ row sheetA paperA 3 1 stepsLeft 4 4 (2 ∷ []) (1 ∷ 3 ∷ [])
-    ∷ row sheetA paperA 3 2000 (ended 8) 6 8 [] []
+    ∷ row sheetA textA 3 1 stepsLeft 4 4 (2 ∷ []) (1 ∷ 3 ∷ [])
+    ∷ row sheetA textA 3 2000 (ended 8) 6 8 [] []
     -- f, blue limit 4: the fourth step would be over it, and leaves the state of the third
-    ∷ row sheetF paperA 0 3 stepsLeft 3 3 (2 ∷ []) (1 ∷ 2 ∷ [])
-    ∷ row sheetF paperA 0 4 (stopped 17 4) 3 3 (2 ∷ []) (1 ∷ 2 ∷ [])
-    ∷ row sheetF paperA 3 9 (stopped 17 4) 3 3 (2 ∷ []) (1 ∷ 2 ∷ [])
+    ∷ row sheetF textA 0 3 stepsLeft 3 3 (2 ∷ []) (1 ∷ 2 ∷ [])
+    ∷ row sheetF textA 0 4 (stopped 17 4) 3 3 (2 ∷ []) (1 ∷ 2 ∷ [])
+    ∷ row sheetF textA 3 9 (stopped 17 4) 3 3 (2 ∷ []) (1 ∷ 2 ∷ [])
     -- h: the move at 1, of a file that is made at 2
     ∷ row sheetA (paper "(run 3 1 6)\n" "(move 1 2 1)\n" "(move 1 3 4)\n" "(claim 8 5 5)\n") 0 1024 (stopped 16 1) 1 0 (0 ∷ 1 ∷ []) (2 ∷ 2 ∷ [])
     -- i: at 5 task 3 starts on a processor in use, and before its file has arrived: 15
@@ -121,7 +117,7 @@ table =
     ∷ row sheetA (paper "(run 3 1 6)\n" "(move 1 2 2)\n" "(move 1 3 4)\n" "(claim 9 5 5)\n") 0 6 (ended 8) 6 8 [] []
     -- k, m: text refusals, whatever steps are named
     ∷ row sheetA (paper "(run 3 1 6)\n" "" "(move 1 3 4)\n" "(claim 8 5 5)\n") 0 6 (refusedBy 14 4) 0 0 [] []
-    ∷ row (ascii "(board (blue 1 6) (red 1 6))\n") paperA 2 0 (refusedBy 2 2) 0 0 [] []
+    ∷ row (ascii "(board (blue 1 6) (red 1 6))\n") textA 2 0 (refusedBy 2 2) 0 0 [] []
     -- a relay is never seen running; its file is held for one tick more, after the span
     ∷ row relays relayed 0 2 stepsLeft 2 2 [] (1 ∷ [])
     ∷ row relays relayed 0 3 (ended 2) 3 3 [] []

@@ -1,5 +1,6 @@
 -- What the simulator promises, stated of the definitions. Each is a type, proved in proofs/ under its name with a small first letter.
--- "Not:" names a wrong rule that the promise rules out.
+-- "Not:" names a wrong rule that the promise rules out by itself; where alone it is met by a trivial program, the comment names the promise that
+-- rules that out. TurnLaw, TextExact and SimulatedOnly are in SimulationExact.
 use Prim.Native.Nat.{ℕ, suc, _+_, _*_, _≤_, _<_, max, min}
 use mathlib.Core.Bool.{Bool, true, false, _&&_, _||_}
 use mathlib.Core.Path.{_≡_}
@@ -7,11 +8,11 @@ use mathlib.Core.Logic.{_↔_}
 use mathlib.Core.List.{List}
 use lib.ListN.{length, getD}
 use lib.Dec.{leb, eqb}
-use Rattle.rules.specs.Count.{sumWhere}
+use Rattle.rules.specs.Count.{countWhere}
 use Rattle.rules.specs.Limits.{maxTasks, maxFiles, allProcessors, maxSteps}
 use Rattle.rules.specs.Model.{Colour, blue, red, Instance, taskCount, fileCount, Schedule, runAt, startAt, moveAt, moved, madeAt}
 use Rattle.rules.specs.Residency.{isHeld}
-use Rattle.rules.specs.Validity.{Claim, Occupies, OverLimit, overlap, makespan, Verdict}
+use Rattle.rules.specs.Validity.{Claim, ShareInstant, Occupies, OverLimit, makespan, Verdict}
 use Rattle.rules.specs.InstanceText.{accepted, readInstance}
 use Rattle.rules.specs.ScheduleText.{read, readSchedule}
 use Rattle.rules.specs.Calls.{mark}
@@ -39,19 +40,22 @@ pub record Shows (I : Instance) (P : Schedule) (t : ℕ) (s : State) : Type 0 wh
 -- t is the one of which A holds that has so many others below it
 pub record Nth (A : ℕ → Bool) (n t : ℕ) : Type 0 where
   pub holds : A t ≡ true
-  pub below : sumWhere t A (λ _. 1) ≡ n
+  pub below : countWhere t A ≡ n
 
 -- the state after the steps made: before the first, or that of the tick of the last
 pub record Stepped (I : Instance) (P : Schedule) (a : Simulation) : Type 0 where
   pub none : a .made ≡ 0 → a .state ≡ before
   pub some : (n : ℕ) → a .made ≡ suc n → (t : ℕ) × Nth (isTurn I P) n t × Shows I P t (a .state)
 
--- of a timetable that the due lines can spell. Not: looking only when runs start; a step that jumps over a tick; a finished run still shown
+-- of a timetable that the due lines can spell.
+-- Not: looking only when runs start; a step that jumps over a tick; a finished run still shown. Alone it is met by a simulator that never steps;
+-- ProgressLaw rules that out
 abbrev pub StepLaw : Type 0
 StepLaw =
     (I : Instance) → WellFormed I → (P : Schedule) (claim : Claim) → Spellable I P claim → (wanted : ℕ) → Stepped I P (watch I P wanted)
 
--- at a tick at which nothing starts or ends all is as at the tick before, so the steps miss nothing. Not: the end of a hold left out of the ticks
+-- at a tick at which nothing starts or ends all is as at the tick before, so the steps miss nothing.
+-- Not: the end of a hold left out of the ticks. Alone it is met by steps to every tick; TurnLaw rules that out
 abbrev pub StillLaw : Type 0
 StillLaw =
     (I : Instance) (P : Schedule) (t : ℕ) → isTurn I P (suc t) ≡ false →
@@ -66,7 +70,9 @@ pub record LaterStart (I : Instance) (P : Schedule) (t : ℕ) : Type 0 where
   pub other : ℕ
   pub oneExists : one < taskCount I
   pub otherExists : other < taskCount I
-  pub shares : overlap I P one other ≡ true
+  pub differ : one ≡ other → ⊥
+  pub processor : runAt P one .processor ≡ runAt P other .processor
+  pub shares : ShareInstant I P one other
   pub later : max (startAt P one) (startAt P other) ≡ t
 
 -- t is the start of a move of a file that is not made by then, or of a reader whose file has not arrived by then
@@ -91,7 +97,7 @@ Clear I P u = (t : ℕ) → t < u → Faulty I P t → ⊥
 
 -- so many ticks before t at which something starts or ends
 abbrev pub turnsBefore : Instance → Schedule → ℕ → ℕ
-turnsBefore I P t = sumWhere t (isTurn I P) (λ _. 1)
+turnsBefore I P t = countWhere t (isTurn I P)
 
 -- how it ends when so many steps are wanted in all:
 pub record Progresses (I : Instance) (P : Schedule) (wanted : ℕ) (a : Simulation) : Type 0 where
@@ -105,12 +111,14 @@ pub record Progresses (I : Instance) (P : Schedule) (wanted : ℕ) (a : Simulati
   pub end : (span : ℕ) → (a .progress ≡ ended span) ↔ ((span ≡ makespan I P) × ((t : ℕ) → Faulty I P t → ⊥) × (turnsBefore I P (closing I P) ≤ wanted))
   pub endMade : (span : ℕ) → a .progress ≡ ended span → a .made ≡ turnsBefore I P (closing I P)
 
--- Not: the marker's order over the whole timetable; a fault after the first; 17 at a tick at which 16 applies too; the end told one step late
+-- Not: the marker's order over the whole timetable; a fault after the first; 17 at a tick at which 16 applies too; the end told one step late.
+-- Alone it is met by any state; StepLaw rules that out
 abbrev pub ProgressLaw : Type 0
 ProgressLaw =
     (I : Instance) → WellFormed I → (P : Schedule) (claim : Claim) → Spellable I P claim → (wanted : ℕ) → Progresses I P wanted (watch I P wanted)
 
--- the first faulty tick is itself one at which something starts or ends, so it is where a step would go. Not: a fault between two steps missed
+-- the first faulty tick is itself one at which something starts or ends, so it is where a step would go.
+-- Not: the starts of runs left out of the ticks. Alone it is met by steps to every tick; TurnLaw rules that out
 abbrev pub FaultTurn : Type 0
 FaultTurn =
     (I : Instance) → WellFormed I → (P : Schedule) (claim : Claim) → Spellable I P claim → (t : ℕ) → First (Faulty I P) t → isTurn I P t ≡ true
@@ -118,8 +126,9 @@ FaultTurn =
 -- nothing starts or ends from `closing` on, and there are at most two ticks for each task and each file: 1024 steps are always enough
 pub record Bounded (I : Instance) (P : Schedule) : Type 0 where
   pub closed : (t : ℕ) → isTurn I P t ≡ true → t < closing I P
-  pub few : (t : ℕ) → sumWhere t (isTurn I P) (λ _. 1) ≤ 2 * (maxTasks + maxFiles)
+  pub few : (t : ℕ) → turnsBefore I P t ≤ 2 * (maxTasks + maxFiles)
 
+-- Not: a `closing` before the last hold ends; steps to every tick. Alone it is met by no ticks at all; TurnLaw rules that out
 abbrev pub StepBound : Type 0
 StepBound = (I : Instance) → WellFormed I → (P : Schedule) (claim : Claim) → Spellable I P claim → Bounded I P
 
@@ -142,36 +151,61 @@ pub record Agrees (sheet timetable : List ℕ) (v : Verdict) (c : Progress) : Ty
       → isFault (v .number) ≡ false → c ≡ ended (makespan I P)
   -- which is the accepted one
   pub ofSpan : v .number ≡ 0 → c ≡ ended (v .span)
+  -- where the marker says 17 no tick is faulty by 15 or 16, so it stops by 17 at the marker's instant
+  pub of17 : v .number ≡ 17 → c ≡ stopped 17 (v .place)
 
--- Not: a timetable with an untrue claim stopped; a fault past the last step missed
+-- Not: a timetable with an untrue claim stopped; a fault past the last step missed. Alone it is met by any number and tick of a stop where the marker
+-- says 15 or 16; SimulatorLaw rules that out
 abbrev pub SimulatorAgrees : Type 0
 SimulatorAgrees =
     (sheet timetable : List ℕ) (made steps : ℕ) → maxSteps ≤ made + steps → Agrees sheet timetable (mark sheet timetable) (simulate sheet timetable made steps .progress)
 
--- a later call that names the steps made goes on from there, as one call of all the steps would. Not: going on from the first step again
+-- a later call that names the steps made goes on from there, as one call of all the steps would.
+-- Not: going on from the first step again. Alone it is met by one fixed answer; SimulatorLaw rules that out
 abbrev pub GoesOn : Type 0
 GoesOn =
     (sheet timetable : List ℕ) (made steps more : ℕ) → 1 ≤ more →
     simulate sheet timetable (simulate sheet timetable made steps .made) more ≡ simulate sheet timetable made (steps + more)
 
--- steps already made over 1024 count as 1024 too, since so many are past every stop and end
+-- and naming no more leaves the steps made and the state, after a stop too.
+-- Not: a step made unasked; the state before the first again. Alone it is met by one fixed answer; SimulatorLaw rules that out
+abbrev pub StaysLaw : Type 0
+StaysLaw =
+    (sheet timetable : List ℕ) (made steps : ℕ) →
+    let a = simulate sheet timetable made steps in
+    let b = simulate sheet timetable (a .made) 0 in
+    (b .made ≡ a .made) × (b .state ≡ a .state)
+
+-- one step more, if it is made, goes to the next tick at which something starts or ends: the first of all, or the first later than the step before.
+-- Not: a tick jumped over; one stepped to twice. Alone it is met by a simulator that never steps; SimulatorLaw rules that out
+abbrev pub NextTick : Type 0
+NextTick =
+    (sheet timetable : List ℕ) (I : Instance) (P : Schedule) (claim : Claim) → readInstance sheet ≡ accepted I → readSchedule I timetable ≡ read P claim →
+    (made : ℕ) → simulate sheet timetable made 1 .made ≡ suc made →
+    First (λ u. (isTurn I P u ≡ true) × (0 < made → simulate sheet timetable made 0 .state .time < u)) (simulate sheet timetable made 1 .state .time)
+
+-- steps already made over 1024 count as 1024 too, since so many are past every stop and end.
+-- Not: the steps named told as the steps made. Alone it is met by one fixed answer; SimulatorLaw rules that out
 abbrev pub CappedLaw : Type 0
 CappedLaw =
     (sheet timetable : List ℕ) (made steps : ℕ) → simulate sheet timetable made steps ≡ simulate sheet timetable (min made maxSteps) steps
 
--- while steps are left it has made as many as were named
+-- while steps are left it has made as many as were named.
+-- Not: a call that makes fewer and says that steps are left. Alone it is met where steps are never left; SimulatorLaw rules that out
 abbrev pub LeftLaw : Type 0
 LeftLaw =
     (sheet timetable : List ℕ) (made steps : ℕ) → simulate sheet timetable made steps .progress ≡ stepsLeft →
     simulate sheet timetable made steps .made ≡ made + min steps maxSteps
 
--- steps named past the stop or the end give that stop or end
+-- steps named past the stop or the end give that stop or end.
+-- Not: steps counted on past the stop; a stop forgotten by a later call. Alone it is met where steps are always left; SimulatorLaw rules that out
 abbrev pub PastLaw : Type 0
 PastLaw =
     (sheet timetable : List ℕ) (made steps made′ steps′ : ℕ) → leftOf (simulate sheet timetable made steps .progress) ≡ 0 →
     made + min steps maxSteps ≤ made′ + min steps′ maxSteps → simulate sheet timetable made′ steps′ ≡ simulate sheet timetable made steps
 
--- a text refusal is the marker's and leaves the state before the first, whatever steps are named. Not: the state of an earlier call; steps left before it
+-- a text refusal is the marker's and leaves the state before the first, whatever steps are named.
+-- Not: the state of an earlier call; steps left before it. Alone it is met by everything refused; TextExact rules that out
 abbrev pub TextLaw : Type 0
 TextLaw =
     (sheet timetable : List ℕ) (made steps : ℕ) → isOfText (mark sheet timetable .number) ≡ true →
@@ -185,10 +219,13 @@ pub record Simulated (sheet timetable : List ℕ) (made steps : ℕ) (a : Simula
   pub stepped : (I : Instance) (P : Schedule) (claim : Claim) → readInstance sheet ≡ accepted I → readSchedule I timetable ≡ read P claim → Stepped I P a
   pub progress : (I : Instance) (P : Schedule) (claim : Claim) → readInstance sheet ≡ accepted I → readSchedule I timetable ≡ read P claim
       → Progresses I P (made + min steps maxSteps) a
+  -- and from `closing` on nothing starts or ends, so that an end has every step made
+  pub bounded : (I : Instance) (P : Schedule) (claim : Claim) → readInstance sheet ≡ accepted I → readSchedule I timetable ≡ read P claim → Bounded I P
   -- for texts that are refused: the marker's refusal, with the state before the first
   pub ofText : isOfText (mark sheet timetable .number) ≡ true → a ≡ refusedText (mark sheet timetable .number) (mark sheet timetable .place)
   -- given steps enough: beside the marker
   pub agrees : maxSteps ≤ made + steps → Agrees sheet timetable (mark sheet timetable) (a .progress)
 
+-- Not: what StepLaw, ProgressLaw, TextLaw and SimulatorAgrees rule out. It fixes the answer (SimulatedOnly)
 abbrev pub SimulatorLaw : Type 0
 SimulatorLaw = (sheet timetable : List ℕ) (made steps : ℕ) → Simulated sheet timetable made steps (simulate sheet timetable made steps)

@@ -1,12 +1,12 @@
 -- The faults of a tick, by what the code asks for.
 use Prim.Native.Nat.{ℕ, _≤_, _<_, max}
-use mathlib.Core.Bool.{Bool, true, false, not, cond, _&&_, _||_}
-use mathlib.Core.Path.{_≡_, refl, sym, _∙_, ap}
+use mathlib.Core.Bool.{Bool, true, false, not, _&&_}
+use mathlib.Core.Path.{_≡_, refl, sym, _∙_}
 use mathlib.Core.Logic.{_≢_}
 use native.Mathlib.Omega.{arith}
 use native.Mathlib.Decide.{decLe}
 use lib.Dec.{leb, ltb, eqb}
-use borrow.Author.Tests.{lt-ltb, le-ltb, leb-true, le-leb, lt-leb, eqb-true, eq-eqb, ne-eqb}
+use borrow.Author.Tests.{leb-true, le-leb, lt-leb, eqb-true, eq-eqb, ne-eqb}
 use Rattle.rules.specs.Count.{anyBelow}
 use Rattle.rules.specs.Model.{Instance, taskCount, fileCount, Schedule, runAt, startAt, finishAt, moved}
 use Rattle.rules.specs.Validity.{overlap, over}
@@ -20,10 +20,10 @@ use Rattle.model.specs.declared.residency.FileTimes.{FileTimes}
 use Rattle.model.specs.Holds.{TimesOf}
 use Rattle.model.specs.Layout.{Job, Entries, instanceFrom, scheduleFrom}
 use Rattle.model.proofs.FileLaws.{arrives-moved}
-use Rattle.model.proofs.LayoutLaws.{task-count, file-count, run-at}
+use Rattle.model.proofs.LayoutLaws.{task-count, file-count, start-at}
 use Rattle.validator.specs.Records.{recordAt}
 use Rattle.validator.proofs.OverlapLaws.{overlap-self, overlap-records}
-use Rattle.simulator.specs.Faults.{begunOverlaps, overlapsBegun, startsOverlapping, earlyStart, earlyBy}
+use Rattle.simulator.specs.Faults.{begunOverlaps, overlapsBegun, startsOverlapping, earlyBy}
 use Rattle.simulator.proofs.AnyLaws.{any-yes, any-over}
 
 -- ---- 15
@@ -115,22 +115,15 @@ module _ (I : Instance) (P : Schedule) where
           unfolding faultAt
           by-none e = rw (← p, n, ← q, m, ← w, e)
 
--- ---- 16, of the times of a file
+-- ---- tests of what is known
 
-module _ (x : FileTimes) (t : ℕ) {a : ℕ} (e : a ≡ cond (x .moves) (x .arrives) (x .made)) where
-  pub start-early : x .starts < a → eqb (x .starts) t ≡ earlyStart x t
-  start-early l = rw (← e, lt-ltb (x .starts) a l)
-
-  pub start-late : a ≤ x .starts → false ≡ earlyStart x t
-  start-late l = rw (← e, le-ltb (x .starts) a l)
-
--- either of two tests
+-- both of two tests
 module _ {a b : Bool} (e : a ≡ b) where
-  pub either-first : a ≡ true → (c : Bool) → true ≡ b || c
-  either-first h c = rw (← e, h)
+  pub both-rest : a ≡ true → (c : Bool) → c ≡ b && c
+  both-rest h c = rw (← e, h)
 
-  pub either-second : a ≡ false → {c d : Bool} → d ≡ c → d ≡ b || c
-  either-second h g = rw (← e, h) g
+  pub both-not : a ≡ false → (c : Bool) → false ≡ b && c
+  both-not h c = rw (← e, h)
 
 -- ---- what the accessors read, and the loops
 
@@ -142,7 +135,7 @@ module _ (b : Shape) (J : Job) (L : Entries) where
   plan = scheduleFrom b L
 
   start-is : {i s : ℕ} → i < b .tasks → s ≡ L .start i → startAt plan i ≡ s
-  start-is {i} h e = ap (λ x. x .start) (run-at b L i h) ∙ sym e
+  start-is {i} h e = start-at b L i h ∙ sym e
 
   pub begun-yes : (t i : ℕ) {j s : ℕ} → j < b .tasks → s ≡ L .start j → s ≤ t → {r : Bool} → r ≡ overlap inst plan i j → r ≡ begunOverlaps inst plan t i j
   begun-yes t i {s = s} h e l g = rw (start-is h e, le-leb s t l) g

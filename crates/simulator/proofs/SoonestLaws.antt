@@ -10,6 +10,7 @@ use borrow.Author.Tests.{eqb-true, eq-eqb}
 use Rattle.rules.specs.Count.{anyBelow}
 use Rattle.rules.proofs.Tests.{clash, or-right, by-or}
 use Rattle.model.specs.Layout.{lastTick}
+use Rattle.model.proofs.StepLaws.{any-empty}
 use Rattle.simulator.specs.Turns.{noTick, Soonest}
 
 -- one tick
@@ -75,17 +76,13 @@ module _ {p q : ℕ → Bool} {from a b r : ℕ} (e : r ≡ min a b) (x : Soones
 
 -- ---- over the indices below a bound
 
-any-none : (p : ℕ → Bool) → anyBelow 0 p ≡ false
-unfolding anyBelow
-any-none p = refl
-
 any-more : (p : ℕ → Bool) (n : ℕ) → anyBelow n p || p n ≡ anyBelow (n + 1) p
 unfolding anyBelow
 any-more p n = rw (add-one n)
 
 module _ (p : ℕ → ℕ → Bool) (from : ℕ) where
   pub soonest-begins : {r : ℕ} → r ≡ noTick → Soonest (λ u. anyBelow 0 (p u)) from r
-  soonest-begins = soonest-none _ (λ u. any-none (p u)) from
+  soonest-begins = soonest-none _ (λ u. any-empty (p u)) from
 
   pub soonest-next : (n : ℕ) {a b r : ℕ} → r ≡ min a b → Soonest (λ u. anyBelow n (p u)) from a → Soonest (λ u. p u n) from b
       → Soonest (λ u. anyBelow (n + 1) (p u)) from r

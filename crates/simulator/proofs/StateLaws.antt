@@ -2,7 +2,7 @@
 use Prim.Native.Nat.{ℕ, suc, _+_, _≤_, _<_}
 use mathlib.Core.Bool.{Bool, true, false}
 use mathlib.Core.List.{List}
-use mathlib.Core.Path.{_≡_, sym, _∙_, ap}
+use mathlib.Core.Path.{_≡_, sym, _∙_}
 use mathlib.Core.Logic.{_≢_}
 use native.Mathlib.Numerals.{add-one}
 use native.Mathlib.Omega.{arith}
@@ -21,7 +21,7 @@ use Rattle.model.specs.declared.layout.Shape.{Shape}
 use Rattle.model.specs.declared.residency.Hold.{Hold}
 use Rattle.model.specs.Holds.{asHold}
 use Rattle.model.specs.Layout.{Job, Entries, instanceFrom, scheduleFrom}
-use Rattle.model.proofs.LayoutLaws.{task-count, file-count, run-at}
+use Rattle.model.proofs.LayoutLaws.{task-count, file-count, processor-at, start-at}
 
 -- ---- an array that is filled by index
 
@@ -74,14 +74,14 @@ module _ (b : Shape) (J : Job) (L : Entries) (t : ℕ) where
 
   module _ {i : ℕ} (h : i < b .tasks) {q : ℕ} (e : q ≡ L .processor i) where
     processor-is : runAt P i .processor ≡ q
-    processor-is = ap (λ x. x .processor) (run-at b L i h) ∙ sym e
+    processor-is = processor-at b L i h ∙ sym e
 
     pub elsewhere : {p : ℕ} → q ≢ p → false ≡ occupies I P p t i
     elsewhere {p} d = rw (processor-is, ne-eqb q p d)
 
     module _ {s : ℕ} (z : s ≡ L .start i) where
       start-is : startAt P i ≡ s
-      start-is = ap (λ x. x .start) (run-at b L i h) ∙ sym z
+      start-is = start-at b L i h ∙ sym z
 
       pub not-begun : {p : ℕ} → q ≡ p → t < s → false ≡ occupies I P p t i
       not-begun {p} g l = rw (processor-is, eq-eqb q p g, start-is, lt-leb s t l)

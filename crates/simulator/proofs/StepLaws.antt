@@ -1,12 +1,10 @@
--- What a step meets, and the walk's answer by it: the laws of the walk in `rules`, for what the code keeps.
+-- What the next step does, and the walk's answer by it: the laws of the walk in `rules`, for what the code keeps.
 use Prim.Native.Nat.{ℕ, zero, suc, _+_, _≤_, _<_}
-use mathlib.Core.List.{List, [], _∷_}
-use mathlib.Core.Logic.{_≢_, ⊎-elim}
+use mathlib.Core.List.{List}
+use mathlib.Core.Logic.{_≢_}
 use mathlib.Core.Path.{_≡_, refl, sym, _∙_, ap}
 use native.Mathlib.Numerals.{add-one}
 use native.Mathlib.Omega.{arith}
-use types.Run.{OneOf}
-use denote.Enum.Declared.{tagOf}
 use borrow.Author.Tests.{ltb-true, lt-ltb}
 use Rattle.rules.specs.Model.{Instance, Schedule, runAt}
 use Rattle.rules.specs.Validity.{makespan}
@@ -17,19 +15,20 @@ use Rattle.rules.proofs.CompleteLaws.{Complete}
 use Rattle.rules.proofs.TickFaultLaws.{is-faulty, faulty-is}
 use Rattle.rules.proofs.WalkLaws.{Walked, walk-begins, walk-steps, walk-left, walk-stops, walk-ends}
 use Rattle.model.specs.declared.layout.Shape.{Shape}
-use Rattle.model.specs.Layout.{Job, Entries, instanceFrom, scheduleFrom, Placed, lastTick}
-use Rattle.model.proofs.LayoutLaws.{task-count, run-at}
+use Rattle.model.specs.Layout.{Job, Entries, instanceFrom, scheduleFrom, Placed}
+use Rattle.model.proofs.LayoutLaws.{task-count, processor-at}
 use Rattle.simulator.specs.declared.walk.Step.{Step}
-use Rattle.simulator.specs.declared.walk.Step.the-variants.{Onto, Fault, Over}
+use Rattle.simulator.specs.declared.walk.Step.the-variants.{Onto, Barred}
+use Rattle.simulator.specs.declared.answer.Progress as Code
+use Rattle.simulator.specs.Answers.{asProgress}
 use Rattle.simulator.specs.Turns.{noTick, Soonest}
-use Rattle.simulator.specs.Walks.{NextTurn, Ahead, barredBy, leftBy, stateBy}
-use Rattle.simulator.proofs.walk.Step.{the-type}
+use Rattle.simulator.specs.Walks.{NextTurn, NoTurn, Ends, atFault, atEnd, Reaches, goesOn, isOver, Ahead, stateBy}
 
--- ---- what the next step meets
+-- ---- what the next step does
 
 module _ (I : Instance) (P : Schedule) {from t : ℕ} (s : Soonest (isTurn I P) from t) where
-  pub ahead-over : noTick ≤ t → Ahead I P from Over
-  ahead-over h u l e = omega (arith, s .least u l e, s .within u e)
+  no-turn : noTick ≤ t → NoTurn I P from
+  no-turn h u l e = omega (arith, s .least u l e, s .within u e)
 
   next-turn : t < noTick → NextTurn I P from t
   next-turn h = record {
@@ -37,20 +36,31 @@ module _ (I : Instance) (P : Schedule) {from t : ℕ} (s : Soonest (isTurn I P) 
     bound = omega arith;
   }
 
-  module _ (h : t < noTick) {f : ℕ} (e : f ≡ faultAt I P t) where
-    pub ahead-onto : f ≡ 0 → Ahead I P from (Onto t)
-    ahead-onto z = (next-turn h, sym e ∙ z)
+  module _ (h : noTick ≤ t) {span : ℕ} (z : span ≡ makespan I P) where
+    pub ahead-end : Ends I P from (ended span)
+    ahead-end = atEnd (no-turn h) z
 
-    pub ahead-fault : f ≢ 0 → Ahead I P from (Fault f t)
-    ahead-fault d = (next-turn h, e, omega arith)
+    pub reaches-end : Reaches I P from (ended span)
+    reaches-end = isOver (no-turn h) z
 
--- a step onto a tick
-module _ (I : Instance) (P : Schedule) (from : ℕ) (s : Step) {t : ℕ} (e : s ≡ Onto t) (x : Ahead I P from s) where
-  pub onto-ahead : Ahead I P from (Onto t)
-  onto-ahead = rw e at x
+  module _ (h : t < noTick) where
+    pub reaches-turn : Reaches I P from stepsLeft
+    reaches-turn = goesOn t (next-turn h)
 
-  pub onto-bound : t ≤ lastTick
-  onto-bound = onto-ahead .0 .bound
+    module _ {f : ℕ} (e : f ≡ faultAt I P t) where
+      pub ahead-onto : f ≡ 0 → Ahead I P from (Onto t)
+      ahead-onto z = (next-turn h, sym e ∙ z)
+
+      pub ahead-fault : f ≢ 0 → Ends I P from (stopped f t)
+      ahead-fault d = atFault t (next-turn h) e (omega arith)
+
+-- a step, by its case
+module _ (I : Instance) (P : Schedule) (from : ℕ) (s : Step) (x : Ahead I P from s) where
+  pub onto-ahead : {t : ℕ} → s ≡ Onto t → NextTurn I P from t × (faultAt I P t ≡ 0)
+  onto-ahead e = rw e at x
+
+  pub barred-ahead : {p : Code.Progress} → s ≡ Barred p → Ends I P from (asProgress p)
+  barred-ahead e = rw e at x
 
 -- ---- the walk
 
@@ -59,19 +69,6 @@ clean I P t e f = omega (arith, ltb-true 0 (faultAt I P t) (faulty-is I P t f))
 
 is-fault : (I : Instance) (P : Schedule) (t n : ℕ) → n ≡ faultAt I P t → 1 ≤ n → Faulty I P t
 is-fault I P t n e l = is-faulty I P t (lt-ltb 0 (faultAt I P t) (omega arith))
-
-none-is-0 : OneOf (1 ∷ 2 ∷ []) 0 → ⊥
-none-is-0 = ⊎-elim (λ e. omega arith) (λ e. omega arith)
-
-module _ (s : Step) (span : ℕ) where
-  pub barred-fault : {n t : ℕ} → s ≡ Fault n t → stopped n t ≡ barredBy s span
-  barred-fault e = rw e
-
-  pub barred-over : s ≡ Over → ended span ≡ barredBy s span
-  barred-over e = rw e
-
-  pub left-over : s ≡ Over → ended span ≡ leftBy s span
-  left-over e = rw e
 
 -- so many steps are made, the last onto tick `time`; the next is looked for from tick `from` on
 pub record Reached (I : Instance) (P : Schedule) (made from time : ℕ) : Type 0 where
@@ -82,48 +79,51 @@ pub begins : (I : Instance) (P : Schedule) (time : ℕ) → Reached I P 0 0 time
 begins I P time = record { walked = walk-begins I P; state = refl }
 
 module _ (I : Instance) (W : WellFormed I) (P : Schedule) (C : Complete I P) {made from time : ℕ} (r : Reached I P made from time) where
-  pub goes : {t : ℕ} → Ahead I P from (Onto t) → Reached I P (made + 1) (t + 1) t
+  pub goes : {t : ℕ} → NextTurn I P from t × (faultAt I P t ≡ 0) → Reached I P (made + 1) (t + 1) t
   goes {t} x =
       let y = walk-steps I W P C from made (r .walked) t (x .0 .first) (clean I P t (x .1)) in
       rw (add-one made, add-one t) (record { walked = y .0; state = sym (y .1) })
 
-  module _ {span : ℕ} (z : span ≡ makespan I P) {a : Simulation} where
-    module _ {q : Progress} (e : a ≡ record { progress = q; made = made; state = stateBy I P made time }) where
-      -- the next step is wanted and cannot be made
-      pub barred : (wanted : ℕ) → made < wanted → (s : Step) → OneOf (1 ∷ 2 ∷ []) (tagOf the-type s) → Ahead I P from s → q ≡ barredBy s span
-          → a ≡ watch I P wanted
-      barred wanted l (Onto t) h x g = absurd (none-is-0 h)
-      barred wanted l (Fault n t) h x g =
-          e ∙ (λ i. record { progress = (g ∙ ap (λ m. stopped m t) (x .1)) i; made = made; state = r .state i })
-          ∙ sym (walk-stops I W P C from made (r .walked) t wanted (x .0 .first) (is-fault I P t n (x .1) (x .2)) l)
-      barred wanted l Over h x g =
-          e ∙ (λ i. record { progress = (g ∙ ap ended z) i; made = made; state = r .state i })
-          ∙ sym (walk-ends I W P C from made (r .walked) wanted x (omega arith))
+  abbrev answer : Progress → Simulation
+  answer q = record { progress = q; made = made; state = stateBy I P made time }
 
-      still-left : (t : ℕ) → NextTurn I P from t → q ≡ stepsLeft → a ≡ watch I P made
-      still-left t n g =
-          e ∙ (λ i. record { progress = g i; made = made; state = r .state i }) ∙ sym (walk-left I W P C from made (r .walked) t (n .first))
+  -- the answer, with the state of the steps made
+  told : {q p : Progress} → q ≡ p → answer q ≡ record { progress = p; made = made; state = stateAfter I P made }
+  told g = λ i. record { progress = g i; made = made; state = r .state i }
 
-      -- all steps wanted are made
-      pub all-made : (s : Step) → Ahead I P from s → q ≡ leftBy s span → a ≡ watch I P made
-      all-made (Onto t) x g = still-left t (x .0) g
-      all-made (Fault n t) x g = still-left t (x .0) g
-      all-made Over x g =
-          e ∙ (λ i. record { progress = (g ∙ ap ended z) i; made = made; state = r .state i })
-          ∙ sym (walk-ends I W P C from made (r .walked) made x (omega arith))
+  over : {span : ℕ} (wanted : ℕ) → made ≤ wanted → NoTurn I P from → span ≡ makespan I P → answer (ended span) ≡ watch I P wanted
+  over wanted l none z = told (ap ended z) ∙ sym (walk-ends I W P C from made (r .walked) wanted none l)
+
+  -- the next step is wanted and not made
+  barred : {q : Progress} (wanted : ℕ) → made < wanted → Ends I P from q → answer q ≡ watch I P wanted
+  barred wanted l (atFault {n} t x e h) =
+      told (ap (λ m. stopped m t) e) ∙ sym (walk-stops I W P C from made (r .walked) t wanted (x .first) (is-fault I P t n e h) l)
+  barred wanted l (atEnd none z) = over wanted (omega arith) none z
+
+  -- all steps wanted are made
+  all-made : {q : Progress} → Reaches I P from q → answer q ≡ watch I P made
+  all-made (goesOn t x) = told refl ∙ sym (walk-left I W P C from made (r .walked) t (x .first))
+  all-made (isOver none z) = over made (omega arith) none z
+
+  module _ {q : Progress} {a : Simulation} (e : a ≡ record { progress = q; made = made; state = stateBy I P made time }) where
+    pub walk-barred : (wanted : ℕ) → made < wanted → Ends I P from q → a ≡ watch I P wanted
+    walk-barred wanted l x = e ∙ barred wanted l x
+
+    pub walk-reaches : (wanted : ℕ) → made ≡ wanted → Reaches I P from q → a ≡ watch I P wanted
+    walk-reaches wanted g x = e ∙ all-made x ∙ ap (watch I P) g
 
 -- ---- a schedule whose tasks are all placed
 
 pub placed-complete : (b : Shape) (J : Job) (L : Entries) → Placed b L → Complete (instanceFrom b J) (scheduleFrom b L)
 placed-complete b J L placed i h =
     let l : i < b .tasks = omega (arith, task-count b J) in
-    lt-ltb 0 (runAt (scheduleFrom b L) i .processor) (omega (arith, placed i l, ap (λ r. r .processor) (run-at b L i l)))
+    lt-ltb 0 (runAt (scheduleFrom b L) i .processor) (omega (arith, placed i l, processor-at b L i l))
 
 -- ---- the answer's state
 
 module _ (I : Instance) (P : Schedule) (p : Progress) (t : ℕ) where
   pub not-stepped : (n : ℕ) → n ≡ 0
-      → _≡_ {A = Simulation} (record { progress = p; made = n; state = before }) (record { progress = p; made = n; state = stateBy I P n t })
+      → _≡_ {A = Simulation} (record { progress = p; made = 0; state = before }) (record { progress = p; made = n; state = stateBy I P n t })
   not-stepped n e = rw e
 
   pub stepped : (n : ℕ) → n ≢ 0 → {rs cs : List ℕ} → rs ≡ stateAt I P t .running → cs ≡ stateAt I P t .contents

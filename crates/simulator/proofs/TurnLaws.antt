@@ -16,7 +16,7 @@ use Rattle.model.specs.declared.residency.Hold.the-variants.{Never, During, Sin
 use Rattle.model.specs.Holds.{asHold, Within, TimesOf}
 use Rattle.model.specs.Layout.{Job, Entries, instanceFrom, scheduleFrom, lastTick}
 use Rattle.model.proofs.FileLaws.{arrives-moved}
-use Rattle.model.proofs.LayoutLaws.{task-count, file-count, run-at}
+use Rattle.model.proofs.LayoutLaws.{task-count, file-count, start-at}
 use Rattle.simulator.specs.Turns.{noTick, Soonest}
 use Rattle.simulator.proofs.SoonestLaws.{soonest-none, soonest-same, soonest-or}
 
@@ -55,7 +55,7 @@ module _ (b : Shape) (J : Job) (L : Entries) where
     pub run-turns : {i s e : ℕ} → i < b .tasks → s ≡ L .start i → e ≡ finishAt I P i → Soonest (λ u. eqb s u || eqb e u) from r
         → Soonest (λ u. runTurns I P u i) from r
     run-turns {i} {s} h p q =
-        let z : s ≡ startAt P i = p ∙ sym (ap (λ x. x .start) (run-at b L i h)) in
+        let z : s ≡ startAt P i = p ∙ sym (start-at b L i h) in
         soonest-same (λ u. rw (z, q))
 
     -- ---- a file

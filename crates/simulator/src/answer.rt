@@ -1,6 +1,6 @@
 // The simulator's answer, and the numbers of each of its cases.
 ghost use mathlib.Core.Path.{_≡_};
-ghost use Rattle.rules.specs.Simulation.{numberOf, placeOf, leftOf, spanOf, refusedText};
+ghost use Rattle.rules.specs.Simulation.{before, numberOf, placeOf, leftOf, spanOf, refusedText};
 ghost use Rattle.simulator.specs.Answers.{asProgress, asSimulation};
 use rules::Board;
 
@@ -73,18 +73,25 @@ pub struct Simulation {
 }
 
 impl Simulation {
-    // A text refused: the state is that before the first step.
-    pub fn refused(number: u64, place: u64) -> Simulation
-        ensures { λ r. ⌜ asSimulation r ≡ refusedText number place ⌝ }
+    // No step is made: the state before the first.
+    pub fn before_first(progress: Progress) -> Simulation
+        ensures { λ r. ⌜ asSimulation r ≡ record { progress = asProgress progress; made = 0; state = before } ⌝ }
     {
         let running = [0; Board::ALL_PROCESSORS];
         let contents = [0; Board::MAX_FILES];
         Simulation {
-            progress: Progress::Refused { number, place },
+            progress,
             made: 0,
             time: 0,
             running,
             contents,
         }
+    }
+
+    // A text is refused.
+    pub fn refused(number: u64, place: u64) -> Simulation
+        ensures { λ r. ⌜ asSimulation r ≡ refusedText number place ⌝ }
+    {
+        Simulation::before_first(Progress::Refused { number, place })
     }
 }

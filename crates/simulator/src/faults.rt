@@ -5,7 +5,6 @@ ghost use Rattle.rules.specs.Validity.{overlap};
 ghost use Rattle.rules.specs.Simulation.{sharesAt, fileEarly, earlyAt, faultAt};
 ghost use Rattle.model.specs.Layout.{instanceOf, scheduleOf, InBounds};
 ghost use Rattle.simulator.specs.Faults.{begunOverlaps, overlapsBegun, startsOverlapping, earlyMove, earlyStart, earlyBy};
-use model::choice::select;
 use model::layout;
 use model::layout::Shape;
 use model::residency::FileTimes;
@@ -14,6 +13,8 @@ use runs::overlapping_runs;
 use validator::exclusion::run_of;
 use validator::judgement::Verdict;
 use validator::memory::over_at;
+use validator::timing::moves_early;
+use validator::timing::starts_early;
 
 // Whether two tasks are two, and their runs are on one processor and share an instant.
 fn overlapping_tasks<'a>(
@@ -116,22 +117,20 @@ fn shares_at<'a>(
 }
 
 // Whether tick t is the start of a move of a file that is not made by then.
-fn moves_early(times: FileTimes, t: u64) -> bool
+fn moves_early_at(times: FileTimes, t: u64) -> bool
     ensures { λ r. ⌜ r ≡ earlyMove times t ⌝ }
 {
-    if times.moves {
-        if times.departs < times.made {
-            return times.departs == t;
-        }
+    if moves_early(times) {
+        return times.departs == t;
     }
     false
 }
 
 // Whether tick t is the start of a reader whose file has not arrived by then.
-fn starts_early(times: FileTimes, t: u64) -> bool
+fn starts_early_at(times: FileTimes, t: u64) -> bool
     ensures { λ r. ⌜ r ≡ earlyStart times t ⌝ }
 {
-    if times.starts < select(times.moves, times.arrives, times.made) {
+    if starts_early(times) {
         return times.starts == t;
     }
     false
@@ -141,10 +140,10 @@ fn starts_early(times: FileTimes, t: u64) -> bool
 fn early_by(times: FileTimes, t: u64) -> bool
     ensures { λ r. ⌜ r ≡ earlyBy times t ⌝ }
 {
-    if moves_early(times, t) {
+    if moves_early_at(times, t) {
         return true;
     }
-    starts_early(times, t)
+    starts_early_at(times, t)
 }
 
 // Whether tick t is an early move or an early start of file k.

@@ -4,7 +4,7 @@ ghost use Rattle.rules.specs.Promises.{WellFormed};
 ghost use Rattle.rules.specs.Simulation.{watch as rules-watch};
 ghost use Rattle.model.specs.Layout.{entriesOf, instanceOf, scheduleOf, InBounds, Placed};
 ghost use Rattle.simulator.specs.Answers.{asProgress, asSimulation};
-ghost use Rattle.simulator.specs.Walks.{Ahead, barredBy, leftBy, stateBy};
+ghost use Rattle.simulator.specs.Walks.{Ahead, Reaches, stateBy};
 use super::answer::Progress;
 use super::answer::Simulation;
 use super::faults::fault_at;
@@ -15,16 +15,14 @@ use super::turns::next_turn;
 use claims::makespan;
 use model::layout;
 use model::layout::Shape;
-use rules::Board;
 
-// What the next step meets: a turn that it goes to, a faulty one that it does not, or none.
+// What the next step does: it goes to a turn, or it is not made, and that is how the walk ends.
 pub enum Step {
     Onto(u64),
-    Fault(u64, u64),
-    Over,
+    Barred(Progress),
 }
 
-// What the next step meets from tick `from` on.
+// What the next step does from tick `from` on: the next turn, if that is not faulty.
 fn step_from<'a>(
     shape: Shape,
     job: &'a [u64; layout::JOB],
@@ -34,41 +32,20 @@ fn step_from<'a>(
     requires { ⌜ InBounds shape (now job) (now schedule) ⌝ }
     ensures { λ r. ⌜ Ahead (instanceOf shape (now (job .entry))) (scheduleOf shape (now (schedule .entry))) from r ⌝ }
 {
-    let t = next_turn(shape, job, schedule, from);
-    if NO_TICK <= t {
-        return Step::Over;
+    let tick = next_turn(shape, job, schedule, from);
+    if NO_TICK <= tick {
+        let span = makespan(shape, job, schedule);
+        return Step::Barred(Progress::Ended { span });
     }
-    let fault = fault_at(shape, job, schedule, t);
-    if fault == 0 {
-        return Step::Onto(t);
+    let number = fault_at(shape, job, schedule, tick);
+    if number == 0 {
+        return Step::Onto(tick);
     }
-    Step::Fault(fault, t)
-}
-
-// How a walk ends whose next step is wanted and cannot be made.
-fn barred_by(step: Step, span: u64) -> Progress
-    ensures { λ r. ⌜ asProgress r ≡ barredBy step span ⌝ }
-{
-    match step {
-        Step::Onto(_) => Progress::StepsLeft,
-        Step::Fault(number, tick) => Progress::Stopped { number, tick },
-        Step::Over => Progress::Ended { span },
-    }
-}
-
-// How a walk ends that has made all steps wanted: a faulty turn ahead is a step left.
-fn left_by(step: Step, span: u64) -> Progress
-    ensures { λ r. ⌜ asProgress r ≡ leftBy step span ⌝ }
-{
-    match step {
-        Step::Onto(_) => Progress::StepsLeft,
-        Step::Fault(_, _) => Progress::StepsLeft,
-        Step::Over => Progress::Ended { span },
-    }
+    Step::Barred(Progress::Stopped { number, tick })
 }
 
 // The answer, with the state after the steps made, the last of them onto tick `time`.
-fn leave<'a>(
+fn answer_after<'a>(
     shape: Shape,
     job: &'a [u64; layout::JOB],
     schedule: &'a [u64; layout::SCHEDULE],
@@ -84,15 +61,7 @@ fn leave<'a>(
     } ⌝ }
 {
     if made == 0 {
-        let idle = [0; Board::ALL_PROCESSORS];
-        let empty = [0; Board::MAX_FILES];
-        return Simulation {
-            progress,
-            made,
-            time: 0,
-            running: idle,
-            contents: empty,
-        };
+        return Simulation::before_first(progress);
     }
     let running = running_at(shape, job, schedule, time);
     let contents = contents_at(shape, job, schedule, time);
@@ -103,6 +72,23 @@ fn leave<'a>(
         running,
         contents,
     }
+}
+
+// How a walk ends that has made all steps wanted, with the next turn from tick `from` on, if there is one.
+fn progress_at<'a>(
+    shape: Shape,
+    job: &'a [u64; layout::JOB],
+    schedule: &'a [u64; layout::SCHEDULE],
+    from: u64,
+) -> Progress
+    requires { ⌜ InBounds shape (now job) (now schedule) ⌝ }
+    ensures { λ r. ⌜ Reaches (instanceOf shape (now (job .entry))) (scheduleOf shape (now (schedule .entry))) from (asProgress r) ⌝ }
+{
+    if next_turn(shape, job, schedule, from) < NO_TICK {
+        return Progress::StepsLeft;
+    }
+    let span = makespan(shape, job, schedule);
+    Progress::Ended { span }
 }
 
 // The answer when so many steps are wanted in all.
@@ -118,19 +104,21 @@ pub fn watch<'a>(
     ensures { λ r. ⌜ asSimulation r ≡
         rules-watch (instanceOf shape (now (job .entry))) (scheduleOf shape (now (schedule .entry))) wanted ⌝ }
 {
-    let span = makespan(shape, job, schedule);
     let mut made: u64 = 0;
     let mut from: u64 = 0;
     let mut time: u64 = 0;
     while made < wanted {
-        let step = step_from(shape, job, schedule, from);
-        let Step::Onto(t) = step else {
-            return leave(shape, job, schedule, barred_by(step, span), made, time);
-        };
-        made += 1;
-        from = t + 1;
-        time = t;
+        match step_from(shape, job, schedule, from) {
+            Step::Barred(progress) => {
+                return answer_after(shape, job, schedule, progress, made, time);
+            }
+            Step::Onto(t) => {
+                made += 1;
+                from = t + 1;
+                time = t;
+            }
+        }
     }
-    let step = step_from(shape, job, schedule, from);
-    leave(shape, job, schedule, left_by(step, span), made, time)
+    let progress = progress_at(shape, job, schedule, from);
+    answer_after(shape, job, schedule, progress, made, time)
 }

@@ -1,14 +1,15 @@
 -- The lowest reader of an early file is the lowest task that reads one.
 use Prim.Native.Nat.{ℕ, _<_}
-use mathlib.Core.Bool.{Bool, true, false, cond, _||_}
-use mathlib.Core.Path.{_≡_, refl, _∙_}
+use mathlib.Core.Bool.{Bool, true, false, _||_}
+use mathlib.Core.Path.{_≡_, sym, _∙_}
 use native.Mathlib.Omega.{arith}
-use lib.Dec.{ltb, eqb}
+use lib.Dec.{eqb}
 use borrow.Author.Tests.{eqb-true, eq-eqb}
 use Rattle.rules.specs.Count.{firstBelow}
-use Rattle.rules.specs.Model.{Instance, taskCount, fileAt, fileCount, Schedule, moveEnd}
+use Rattle.rules.specs.Model.{Instance, taskCount, fileAt, fileCount, Schedule, moved}
 use Rattle.rules.specs.Validity.{early, earlyFor, readsEarly}
-use Rattle.rules.proofs.Tests.{and-true}
+use Rattle.rules.proofs.Tests.{split, and-true}
+use Rattle.rules.proofs.ValidLaws.{early-moved, early-unmoved}
 use Rattle.rules.proofs.CountLaws.{any-found, any-some, first-is}
 use Rattle.model.specs.declared.residency.FileTimes.{FileTimes}
 use Rattle.model.specs.Holds.{TimesOf}
@@ -20,21 +21,23 @@ use Rattle.validator.proofs.LeastLaws.{least-default, least-bound, leas
 abbrev pub readerOf : Instance → ℕ → ℕ
 readerOf I k = fileAt I k .reader
 
--- only of a file that moves does the test read when it arrives
-early-arrives : (moves : Bool) (d m s x y : ℕ) → (moves ≡ true → x ≡ y) → cond moves (ltb d m || ltb s x) (ltb s m) ≡ cond moves (ltb d m || ltb s y) (ltb s m)
-early-arrives true d m s x y u = rw (u refl)
-early-arrives false d m s x y u = refl
+-- either of two tests
+module _ {a b : Bool} (e : a ≡ b) where
+  pub either-first : a ≡ true → (c : Bool) → true ≡ b || c
+  either-first h c = rw (← e, h)
+
+  pub either-second : a ≡ false → {c d : Bool} → d ≡ c → d ≡ b || c
+  either-second h g = rw (← e, h) g
 
 -- whether a file is early, from its times
 pub early-from : {I : Instance} {P : Schedule} {k : ℕ} {t : FileTimes} {r : Bool} → TimesOf I P k t → r ≡ tooEarly t → r ≡ early I P k
-unfolding early
-early-from {I} {P} {k} {t} times e = e ∙ rw (
-  early-arrives (t .moves) (t .departs) (t .made) (t .starts) (t .arrives) (moveEnd I P k) (arrives-moved I P k t times),
-  times .moves,
-  times .made,
-  times .departs,
-  times .starts,
-)
+early-from {I} {P} {k} {t} times e = e ∙ split (t .moves)
+    (λ m.
+    let moves : moved I P k ≡ true = sym (times .moves) ∙ m in
+    rw (m, early-moved I P k moves, times .departs, times .made, times .starts, arrives-moved I P k t times m))
+    (λ m.
+    let stays : moved I P k ≡ false = sym (times .moves) ∙ m in
+    rw (m, early-unmoved I P k stays, times .made, times .starts))
 
 module _ (I : Instance) (P : Schedule) where
   reads-early : (k j : ℕ) → k < fileCount I → early I P k ≡ true → readerOf I k ≡ j → readsEarly I P j ≡ true

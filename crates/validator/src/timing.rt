@@ -5,7 +5,7 @@ ghost use Rattle.rules.specs.Count.{firstBelow};
 ghost use Rattle.rules.specs.Model.{taskCount};
 ghost use Rattle.rules.specs.Validity.{early, readsEarly};
 ghost use Rattle.model.specs.Layout.{instanceOf, scheduleOf, InBounds};
-ghost use Rattle.validator.specs.Early.{tooEarly};
+ghost use Rattle.validator.specs.Early.{movesEarly, startsEarly, tooEarly};
 use model::choice::lesser;
 use model::choice::select;
 use model::layout;
@@ -13,17 +13,31 @@ use model::layout::Shape;
 use model::residency::FileTimes;
 use model::residency::file_times;
 
-// Whether a file with these times moves before it is made, or its reader starts before it arrived.
+// Whether a file with these times moves before it is made.
+pub fn moves_early(times: FileTimes) -> bool
+    ensures { λ r. ⌜ r ≡ movesEarly times ⌝ }
+{
+    if times.moves {
+        return times.departs < times.made;
+    }
+    false
+}
+
+// Whether the reader of a file with these times starts before it arrived.
+pub fn starts_early(times: FileTimes) -> bool
+    ensures { λ r. ⌜ r ≡ startsEarly times ⌝ }
+{
+    times.starts < select(times.moves, times.arrives, times.made)
+}
+
+// Whether either is so.
 fn too_early(times: FileTimes) -> bool
     ensures { λ r. ⌜ r ≡ tooEarly times ⌝ }
 {
-    if times.moves {
-        if times.departs < times.made {
-            return true;
-        }
-        return times.starts < times.arrives;
+    if moves_early(times) {
+        return true;
     }
-    times.starts < times.made
+    starts_early(times)
 }
 
 // Whether file k is early.

@@ -3,7 +3,7 @@
 use crate::reference::{
     finish, moves, peaks, read_sheet, span, write_table, Sheet, Table, BIG, MAX_TEXT,
 };
-use crate::simulation::Film;
+use crate::simulation::Trace;
 
 /// A generator of numbers (SplitMix64).
 #[derive(Default)]
@@ -394,9 +394,9 @@ fn later(r: &mut Random, sheet: &Sheet, mut t: Table) -> Table {
 pub fn limited_before_fault(sheet: &Sheet, t: &Table) -> Sheet {
     let mut s = sheet.clone();
     s.limits = [BIG; 2];
-    let film = Film::new(&s, t);
-    if let Some(tick) = film.faulty_tick() {
-        s.limits = film.peaks_before(tick);
+    let trace = Trace::new(&s, t);
+    if let Some(tick) = trace.faulty_tick() {
+        s.limits = trace.peaks_before(tick);
     }
     s
 }

@@ -1,9 +1,9 @@
 //! An independent implementation of document 01 with Orders 1 to 3, for tests, and texts by chance to compare it on.
 
 pub mod colours;
-pub mod films;
 pub mod generate;
 pub mod reference;
 pub mod relays;
 pub mod simulation;
 pub mod stepping;
+pub mod traces;

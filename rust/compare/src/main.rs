@@ -278,8 +278,8 @@ fn moved_papers(t: &mut Tally, r: &mut Random, number: u64) {
     }
 }
 
-/// The films worked by hand, and timetables that move every file, step by step.
-fn films(t: &mut Tally) {
+/// The traces worked by hand, and timetables that move every file, step by step.
+fn traces(t: &mut Tally) {
     if let Err(difference) = t.simulator.by_hand() {
         panic!("{difference}");
     }
@@ -303,7 +303,7 @@ fn main() {
     for number in 0..rounds {
         moved_papers(&mut t, &mut r, number);
     }
-    films(&mut t);
+    traces(&mut t);
     let mut ok = t.print(
         "marker",
         &t.marks,

@@ -1,4 +1,4 @@
-//! Order 3 for tests, written from document 02's words in another way than the proved code: the whole film of a timetable is laid out
+//! Order 3 for tests, written from document 02's words in another way than the proved code: the whole trace of a timetable is laid out
 //! first, every tick of it and its first faulty one; a call's steps are then counted off.
 
 use crate::reference::{
@@ -203,7 +203,7 @@ impl Timeline {
 }
 
 /// A timetable laid out tick by tick.
-pub struct Film {
+pub struct Trace {
     timeline: Timeline,
     /// the ticks before the first faulty one, rising
     ticks: Vec<i64>,
@@ -212,8 +212,8 @@ pub struct Film {
     span: i64,
 }
 
-impl Film {
-    pub fn new(sheet: &Sheet, table: &Table) -> Film {
+impl Trace {
+    pub fn new(sheet: &Sheet, table: &Table) -> Trace {
         let timeline = Timeline::new(sheet, table);
         let mut ticks: Vec<i64> = timeline.ticks().into_iter().collect();
         let mut judged = ticks.iter().map(|t| (*t, timeline.faults(*t)));
@@ -221,7 +221,7 @@ impl Film {
         if let Some((tick, _)) = fault {
             ticks.retain(|t| *t < tick);
         }
-        Film {
+        Trace {
             timeline,
             ticks,
             fault,
@@ -229,11 +229,11 @@ impl Film {
         }
     }
 
-    /// The film of two texts; refused where one of them is.
-    pub fn read(sheet: &[u8], paper: &[u8]) -> Result<Film, Refused> {
+    /// The trace of two texts; refused where one of them is.
+    pub fn read(sheet: &[u8], paper: &[u8]) -> Result<Trace, Refused> {
         let sheet = read_sheet(sheet)?;
         let (table, _) = read_table(&sheet, paper)?;
-        Ok(Film::new(&sheet, &table))
+        Ok(Trace::new(&sheet, &table))
     }
 
     /// The first faulty tick.
@@ -308,7 +308,7 @@ impl Film {
         }
     }
 
-    /// Looks at ticks one by one; an error where the ticks of steps or the first fault are others than those of the film.
+    /// Looks at ticks one by one; an error where the ticks of steps or the first fault are others than those of the trace.
     pub fn check(&self) -> Result<(), String> {
         let mut ticks = vec![];
         let mut fault = None;
@@ -334,8 +334,8 @@ impl Film {
 
 /// A call on two texts.
 pub fn simulate(sheet: &[u8], paper: &[u8], made: u64, steps: u64) -> Answer {
-    match Film::read(sheet, paper) {
-        Ok(film) => film.answer(made, steps),
+    match Trace::read(sheet, paper) {
+        Ok(trace) => trace.answer(made, steps),
         Err(refused) => Answer::before_first(refused),
     }
 }

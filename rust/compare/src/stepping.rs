@@ -1,10 +1,10 @@
 //! The library's simulator held against simulation.rs on marked texts, and against what Order 3 promises of its answers alone; how often
 //! each answer was reached.
 
-use crate::films::films;
 use crate::generate::Random;
 use crate::reference::{Refused, BIG};
-use crate::simulation::{simulate, Answer, Film};
+use crate::simulation::{simulate, Answer, Trace};
+use crate::traces::traces;
 use frames::Progress;
 use std::collections::BTreeMap;
 
@@ -26,10 +26,10 @@ extern "C" {
 const REFUSED: [u64; 8] = [1, 2, 3, 4, 11, 12, 13, 14];
 const STOPPED: [u64; 3] = [15, 16, 17];
 
-/// Of the films with at most so many steps, one in four is gone through step by step.
+/// Of the traces with at most so many steps, one in four is gone through step by step.
 const WALKED: u64 = 100;
 
-/// The most ticks that a film can have: start and end of 64 runs and 256 moves.
+/// The most ticks that a trace can have: start and end of 64 runs and 256 moves.
 const MOST_TICKS: u64 = 640;
 
 /// A number that no call answers, for the arrays before a call.
@@ -87,7 +87,7 @@ fn wrapped(sheet: &[u8], paper: &[u8], made: u64, steps: u64) -> Answer {
     }
 }
 
-/// A number of steps for a film of so many: few, about as many, about the greatest numbers that count, or far past them.
+/// A number of steps for a trace of so many: few, about as many, about the greatest numbers that count, or far past them.
 fn drawn(r: &mut Random, steps: u64) -> u64 {
     let near = |r: &mut Random, n: u64| n.saturating_sub(2).saturating_add(r.next() % 5);
     match r.below(12) {
@@ -104,22 +104,26 @@ fn drawn(r: &mut Random, steps: u64) -> u64 {
     }
 }
 
-/// Two texts and the film of them, or the refusal of one.
+/// Two texts and the trace of them, or the refusal of one.
 struct Case<'a> {
     sheet: &'a [u8],
     paper: &'a [u8],
-    film: Result<Film, Refused>,
+    trace: Result<Trace, Refused>,
 }
 
 impl<'a> Case<'a> {
     fn new(sheet: &'a [u8], paper: &'a [u8]) -> Case<'a> {
-        let film = Film::read(sheet, paper);
-        Case { sheet, paper, film }
+        let trace = Trace::read(sheet, paper);
+        Case {
+            sheet,
+            paper,
+            trace,
+        }
     }
 
     fn due(&self, made: u64, steps: u64) -> Answer {
-        match &self.film {
-            Ok(film) => film.answer(made, steps),
+        match &self.trace {
+            Ok(trace) => trace.answer(made, steps),
             Err(refused) => Answer::before_first(*refused),
         }
     }
@@ -144,7 +148,7 @@ pub struct Counts {
     /// papers gone through step by step, and of these with the most ticks that there can be
     walked: u64,
     longest: u64,
-    films: u64,
+    traces: u64,
 }
 
 impl Counts {
@@ -180,9 +184,11 @@ impl Counts {
             self.call(&case, made, steps)?;
         }
         self.go_on(&case, all.made)?;
-        let Ok(film) = &case.film else { return Ok(()) };
-        film.check()?;
-        self.count(film, &all, mark[0]);
+        let Ok(trace) = &case.trace else {
+            return Ok(());
+        };
+        trace.check()?;
+        self.count(trace, &all, mark[0]);
         if all.made <= WALKED && self.draws.one_in(4) {
             self.walk(&case, &all)?;
         }
@@ -235,8 +241,8 @@ impl Counts {
     }
 
     /// What a paper shows: the answer with all steps, and the marker's number.
-    fn count(&mut self, film: &Film, all: &Answer, mark: u64) {
-        if let Some(faults) = film.faults() {
+    fn count(&mut self, trace: &Trace, all: &Answer, mark: u64) {
+        if let Some(faults) = trace.faults() {
             self.other += u64::from(all.number != mark);
             self.three += u64::from(faults == STOPPED);
             self.first += u64::from(all.made == 0);
@@ -247,12 +253,12 @@ impl Counts {
         }
     }
 
-    /// Holds the library and simulation.rs against the films worked by hand.
+    /// Holds the library and simulation.rs against the traces worked by hand.
     pub fn by_hand(&mut self) -> Result<(), String> {
-        for film in films() {
-            film.hold(library)?;
-            film.hold(simulate)?;
-            self.films += 1;
+        for trace in traces() {
+            trace.hold(library)?;
+            trace.hold(simulate)?;
+            self.traces += 1;
         }
         Ok(())
     }
@@ -274,7 +280,7 @@ impl Counts {
             ("stopped at the first tick", self.first),
             ("gone through step by step", self.walked),
             ("of these with 640 steps", self.longest),
-            ("films worked by hand", self.films),
+            ("traces worked by hand", self.traces),
         ]
     }
 

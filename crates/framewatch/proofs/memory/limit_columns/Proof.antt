@@ -1,0 +1,18 @@
+-- `limit_columns` meets its contract: a limit has at most 9 digits.
+use borrow.Author.Needs.{needs}
+use native.Mathlib.Omega.{arith}
+use Rattle.rules.proofs.NumeralLaws.{decimal-long}
+use Rattle.framewatch.proofs.memory.limit_columns.Statement.{statement}
+use Rattle.framewatch.proofs.memory.limit_columns.Tie as tie
+
+greater-requires : tie.Need-greater-requires
+greater-requires c κs = search needs
+
+number-size-requires : tie.Need-number-size-requires
+number-size-requires c κs = search needs
+
+returns : tie.Need-returns
+returns c = omega (arith, decimal-long (c .before .greater .result) 9 (omega arith) (omega arith))
+
+pub limit-columns-spec : {M : Type 1} → statement M
+limit-columns-spec = tie.close (tie.spec greater-requires number-size-requires returns)
