@@ -21,8 +21,8 @@ extern "C" {
  * never too short. */
 #define FRAMES_MAX_TEXT 32768
 
-/* Stack that is enough for any call, in bytes. On the largest sheet (64 tasks, 256 files) a planner used 15 KB and the marker, with every file
- * moved, 18 KB: tests/calls.c runs each call on a painted stack, and fails if one uses more than this. */
+/* Stack that is enough for any call, in bytes. On the largest sheet (64 tasks, 256 files) a planner used 15 KB, the marker, with every file
+ * moved, 18 KB and the simulator 19 KB: tests/calls.c runs each call on a painted stack, and fails if one uses more than this. */
 #define FRAMES_STACK 32768
 
 /* The numbers that a call answers. The place is what stands in brackets; lines and tasks are counted from 1. The marker answers 0, 1 to 4 and 11
@@ -64,8 +64,9 @@ void frames_mem_min_min(const uint8_t *sheet, size_t sheet_len, uint8_t *out, si
  * any number: steps past the stop or the end give that stop or end. A later call goes on by naming the steps made that an earlier one gave.
  * result: number, place, 1 if steps are left (else 0), span, steps made in all, time. While steps are left, number, place and span are 0; a faulty
  * tick ahead is a step left. On a stop at the first faulty tick number and place are 15, 16 or 17 and that tick, and the state is that of the step
- * before; on a refused text they are the marker's, and the state is that before the first. At the end number and place are 0 and the span is given;
- * the claim may be untrue, and the time one tick past the span, where a relay's hold ends.
+ * before; on a refused text they are the marker's, and the state is that before the first; in both cases the span is 0. The steps made are those of
+ * earlier calls too; the step onto a faulty tick is not one of them, and on a refused text they are 0. At the end number and place are 0 and the
+ * span is given; the claim may be untrue, and the time may be one tick past the span, until which what a relay reads is held.
  * running[p - 1]: the task that processor p runs, or 0. contents[k]: where file k, counted from 0 in the sheet's order, is held: 0 nowhere, 1 in blue
  * memory, 2 in red, 3 in both. Every call fills all three arrays; behind the board's processors and the sheet's files they are 0. */
 void frames_simulate(const uint8_t *sheet, size_t sheet_len, const uint8_t *paper, size_t paper_len, uint64_t made, uint64_t steps,

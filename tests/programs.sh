@@ -156,13 +156,13 @@ expect 'several papers, closed standard output' 'framemark sheet paper zero.pape
 for trace in "$traces"/*.trace; do
     name=${trace%.trace}
     numbers=$(cat "$name.args" 2> /dev/null || true)
-    expect "the trace $(basename "$name")" "framewatch $name.sheet $name.paper $numbers" "$(cat "$trace")"$'\n' ''
+    expect "the trace $(basename "$name")" "framewatch '$name.sheet' '$name.paper' $numbers" "$(cat "$trace")"$'\n' ''
 done
 usage='usage: framewatch SHEET PAPER [STEPS [MADE]]'$'\n'
 trace=$(cat "$traces/course.trace")$'\n'
 heading=$(head -n 1 "$traces/course.trace")$'\n\n'
 ended=$'ended: the span is 8\n'
-no_number=$': no decimal number from 0 to 18446744073709551615\n'
+no_number=$': not a decimal number from 0 to 18446744073709551615\n'
 expect 'a trace' 'framewatch sheet paper' "$trace" ''
 expect 'as many steps as there are' 'framewatch sheet paper 6' "$trace" ''
 expect 'more steps than there are' 'framewatch sheet paper 18446744073709551615 0' "$trace" ''

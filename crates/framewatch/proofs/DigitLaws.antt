@@ -1,9 +1,8 @@
 -- How many columns a number takes, and the digits written for it.
 use Prim.Native.Nat.{ℕ, _^_, _≤_, _<_}
 use mathlib.Core.List.{List}
-use mathlib.Core.Path.{_≡_}
 use native.Mathlib.Omega.{arith}
-use lib.ListN.{length, take}
+use lib.ListN.{length}
 use Rattle.io.specs.Counts.{Counts}
 use Rattle.io.proofs.Counting.{counts}
 use Rattle.rules.specs.Text.{decimal}

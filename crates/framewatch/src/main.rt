@@ -26,7 +26,7 @@ fn number_argument(name: &[u8], i: usize, otherwise: u64) -> Number {
         io::write_all(STDERR_FILENO, name);
         io::write_all(
             STDERR_FILENO,
-            b": no decimal number from 0 to 18446744073709551615\n",
+            b": not a decimal number from 0 to 18446744073709551615\n",
         );
     }
     number

@@ -1,5 +1,4 @@
 // The trace of a timetable: a heading, the steps, and how it ends.
-ghost use mathlib.Core.Path.{_≡_};
 ghost use Prim.Native.Nat.{_≤_};
 ghost use Rattle.rules.specs.Limits.{maxTasks, maxFiles};
 ghost use Rattle.model.specs.Layout.{JobInBounds};
@@ -40,7 +39,7 @@ fn reason(fault: u64) -> Line
     line.text(b" by 17: a memory would hold more than its limit")
 }
 
-// How it ends after so many steps. A refusal was printed before. Returns whether all was written.
+// How it ends after so many steps. A refusal never comes here: `show` prints it before any step. Returns whether all was written.
 fn print_end(progress: Progress, made: u64) -> bool {
     let line = Line::new().end();
     match progress {

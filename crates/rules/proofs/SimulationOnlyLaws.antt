@@ -1,6 +1,6 @@
 -- One answer meets the contract's record of the simulator: simulatedOnly.
 use Prim.Native.Nat.{ℕ, zero, suc, _+_, _≤_, _<_, min}
-use mathlib.Core.Bool.{Bool, true, false}
+use mathlib.Core.Bool.{Bool, true}
 use mathlib.Core.Path.{_≡_, refl, sym, _∙_}
 use native.Mathlib.Omega.{arith}
 use lib.ListN.{getD}
@@ -15,6 +15,7 @@ use Rattle.rules.specs.Promises.{WellFormed, Spellable}
 use Rattle.rules.specs.Simulation.{State, memoryNumber, Progress, Simulation, watch, simulate}
 use Rattle.rules.specs.SimulationPromises.{isIn, Shows, Nth, Stepped, Progresses, isOfText}
 use Rattle.rules.specs.SimulationExact.{SimulatedOnly}
+use Rattle.rules.proofs.Tests.{same-test}
 use Rattle.rules.proofs.WhereLaws.{count-least}
 use Rattle.rules.proofs.MarkerLaws.{mark-sheet, mark-timetable}
 use Rattle.rules.proofs.WatchLaws.{Ends, walks, stops, goes, ends, progress, watch-progress, stepLaw}
@@ -36,11 +37,6 @@ same-number : (m n : ℕ) → ((i : ℕ) → m ≡ suc i → n ≡ suc i) → ((
 same-number zero zero f g = refl
 same-number zero (suc n) f g = g n refl
 same-number (suc m) n f g = sym (f m refl)
-
-same-test : (a b : Bool) → (a ≡ true → b ≡ true) → (b ≡ true → a ≡ true) → a ≡ b
-same-test true b f g = sym (f refl)
-same-test false true f g = g refl
-same-test false false f g = refl
 
 number-is : (n : ℕ) → n ≤ 3 → n ≡ memoryNumber (isIn blue n) (isIn red n)
 number-is zero l = refl

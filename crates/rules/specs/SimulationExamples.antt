@@ -122,7 +122,8 @@ table =
     ∷ row relays relayed 0 2 stepsLeft 2 2 [] (1 ∷ [])
     ∷ row relays relayed 0 3 (ended 2) 3 3 [] []
     -- a relay inside another run on its processor: 15 at the later start
-    ∷ row (ascii "(board (blue 1 9) (red 1 9))\n(task 1 2 2)\n(task 2 0 0)\n") (ascii "(run 1 1 0)\n(run 2 1 1)\n(claim 2 0 0)\n") 0 9 (stopped 15 1) 1 0 (1 ∷ []) []
+    ∷ row (ascii "(board (blue 1 9) (red 1 9))\n(task 1 2 2)\n(task 2 0 0)\n")
+    (ascii "(run 1 1 0)\n(run 2 1 1)\n(claim 2 0 0)\n") 0 9 (stopped 15 1) 1 0 (1 ∷ []) []
     -- the first faulty tick decides: over a limit at 0, though two runs share an instant at 3, for which the marker refuses
     ∷ row (ascii "(board (blue 1 1) (red 1 9))\n(task 1 2 2)\n(task 2 4 2)\n(task 3 2 2)\n(file 1 2 2 1)\n")
     (ascii "(run 1 1 0)\n(run 2 1 2)\n(run 3 1 3)\n(claim 6 2 0)\n") 0 9 (stopped 17 0) 0 0 [] []

@@ -158,7 +158,8 @@ pub record Agrees (sheet timetable : List ℕ) (v : Verdict) (c : Progress) : Ty
 -- says 15 or 16; SimulatorLaw rules that out
 abbrev pub SimulatorAgrees : Type 0
 SimulatorAgrees =
-    (sheet timetable : List ℕ) (made steps : ℕ) → maxSteps ≤ made + steps → Agrees sheet timetable (mark sheet timetable) (simulate sheet timetable made steps .progress)
+    (sheet timetable : List ℕ) (made steps : ℕ) → maxSteps ≤ made + steps →
+    Agrees sheet timetable (mark sheet timetable) (simulate sheet timetable made steps .progress)
 
 -- a later call that names the steps made goes on from there, as one call of all the steps would.
 -- Not: going on from the first step again. Alone it is met by one fixed answer; SimulatorLaw rules that out

@@ -11,7 +11,7 @@ use Rattle.rules.specs.Count.{anyBelow}
 use Rattle.rules.specs.Model.{Instance, taskCount, fileCount, Schedule, runAt, startAt, finishAt, moved}
 use Rattle.rules.specs.Validity.{overlap, over}
 use Rattle.rules.specs.Simulation.{sharesFrom, taskShares, sharesAt, fileEarly, earlyAt, faultAt}
-use Rattle.rules.proofs.Tests.{split, clash, and-true, and-swap, eqb-sym}
+use Rattle.rules.proofs.Tests.{split, same-test, and-true, and-swap, eqb-sym}
 use Rattle.rules.proofs.CountLaws.{any-some, any-found}
 use Rattle.runs.specs.Scan.{overlapping}
 use Rattle.runs.specs.declared.Run.{Run}
@@ -27,10 +27,6 @@ use Rattle.simulator.specs.Faults.{begunOverlaps, overlapsBegun, startsO
 use Rattle.simulator.proofs.AnyLaws.{any-yes, any-over}
 
 -- ---- 15
-
--- two tests that say the same
-same-test : (a b : Bool) → (a ≡ true → b ≡ true) → (b ≡ true → a ≡ true) → a ≡ b
-same-test a b f g = split a (λ e. e ∙ sym (f e)) (λ e. split b (λ h. clash (g h) e) (λ h. e ∙ sym h))
 
 module _ (I : Instance) (P : Schedule) where
   pub same-task : (i j : ℕ) → i ≡ j → false ≡ overlap I P i j

@@ -1,5 +1,4 @@
 // Timetables without a fault: at a limit, with an untrue claim, and with files of size 0.
-use crate::show::show;
 use crate::show::show_marked;
 
 // What is held may be as much as the limit.

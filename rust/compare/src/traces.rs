@@ -140,7 +140,7 @@ fn relay_example() -> Vec<Worked> {
 }
 
 /// A relay that reads a file at the span, one inside another run, and one alone.
-fn relay_films() -> Vec<Worked> {
+fn relay_traces() -> Vec<Worked> {
     let alone = "(board (blue 1 5) (red 1 5))\n(task 1 0 0)\n";
     let inside = "(board (blue 1 5) (red 1 5))\n(task 1 2 2)\n(task 2 0 0)\n";
     let reading = format!("{inside}(file 1 2 3 1)\n");
@@ -170,7 +170,7 @@ fn relay_films() -> Vec<Worked> {
 }
 
 /// Several faults at one tick.
-fn fault_films() -> Vec<Worked> {
+fn fault_traces() -> Vec<Worked> {
     let job = "(task 1 4 4)\n(task 2 2 2)\n(task 3 1 1)\n(file 1 2 2 1)\n(file 2 3 2 1)\n";
     let one_blue = format!("(board (blue 1 3) (red 1 9))\n{job}");
     let two_blue = format!("(board (blue 2 3) (red 1 9))\n{job}");
@@ -193,7 +193,7 @@ fn fault_films() -> Vec<Worked> {
 }
 
 /// A moved file of size 0, and a first tick that is not 0.
-fn other_films() -> Vec<Worked> {
+fn other_traces() -> Vec<Worked> {
     let board = "(board (blue 1 0) (red 1 0))\n";
     let moved: &[Step] = &[
         (0, &[1, 0], &[1]),
@@ -225,9 +225,9 @@ pub fn traces() -> Vec<Worked> {
     all.extend(course_stopped());
     all.extend(course_refused());
     all.extend(relay_example());
-    all.extend(relay_films());
-    all.extend(fault_films());
-    all.extend(other_films());
+    all.extend(relay_traces());
+    all.extend(fault_traces());
+    all.extend(other_traces());
     all
 }
 
@@ -279,7 +279,7 @@ mod tests {
     use crate::simulation::{simulate, Trace};
 
     #[test]
-    fn the_films_worked_by_hand() {
+    fn the_traces_worked_by_hand() {
         for trace in traces() {
             trace.hold(simulate).unwrap();
         }
@@ -298,7 +298,7 @@ mod tests {
     #[test]
     fn the_marker_on_the_variations() {
         let marked = |name: &str| {
-            let trace = traces().into_iter().find(|f| f.name == name).unwrap();
+            let trace = traces().into_iter().find(|t| t.name == name).unwrap();
             let answer = crate::reference::mark(trace.sheet.as_bytes(), trace.paper.as_bytes());
             (answer[0], answer[1])
         };

@@ -1,7 +1,7 @@
 //! Plans, marks and simulates schedules for a board with two memories, by the proved library `frames`.
 //!
-//! A board sheet and a timetable are bytes. Any bytes may be handed in: each call ends in success or in one [`Refusal`],
-//! which has a number and a place and prints as a sentence. The simulator's refusals are numbers: see [`Progress`].
+//! A board sheet and a timetable are bytes. Any bytes may be handed in: the marker and the planners end in success or in one [`Refusal`],
+//! which has a number and a place and prints as a sentence; the simulator answers a [`Progress`].
 //!
 //! What include/frames.h asks of a caller holds of every call here: slices and mutable slices do not overlap, an empty slice is a pointer
 //! with length 0, and the results are arrays of this crate. Calls use no heap in the library and no global data, so they may run on

@@ -24,7 +24,8 @@ pub enum Progress {
     Refused { number: u64, place: u64 },
     /// Steps are left: there is a tick to go to, be it a faulty one.
     StepsLeft,
-    /// Stopped at the first faulty tick by 15, 16 or 17.
+    /// Stopped at the first faulty tick by 15, 16 or 17. The tick is not the place of a [`Refusal`](crate::Refusal), which names a task for
+    /// 15 and 16.
     Stopped { number: u64, tick: u64 },
     /// The last step is made. The span is that of the timetable; a relay's hold can end one tick past it.
     Ended { span: u64 },
@@ -38,14 +39,14 @@ pub struct Simulation {
     pub made: u64,
     /// The tick of the last step, 0 before the first.
     pub time: u64,
-    /// `running[p - 1]` is the task that processor p runs, or 0.
+    /// `running[p - 1]` is the task that processor p runs, or 0; 0 behind the board's processors.
     pub running: [u64; 16],
-    /// Where each file is held, in the sheet's order: 0 nowhere, 1 in blue memory, 2 in red, 3 in both.
+    /// Where each file is held, in the sheet's order: 0 nowhere, 1 in blue memory, 2 in red, 3 in both; 0 behind the sheet's files.
     pub contents: [u64; 256],
 }
 
 /// Simulates a timetable on a board sheet, from before the first step (time 0, nothing running or held): each step goes to the next tick
-/// at which a run, a move or a hold starts or ends. So many steps are already made, and so many are to be made, over 1024 counting as
+/// at which a run, a move or a hold starts or ends. `made` steps are already made, and `steps` are to be made, over 1024 counting as
 /// 1024. Nothing is kept between calls: a later call names the `made` of an earlier one, and goes on from there.
 ///
 /// It stops at the first tick at which the later of two runs that share an instant on one processor starts (15), a move or a run starts
