@@ -1,6 +1,6 @@
 -- The simulator's ticks, text refusals and numbers in words: turnLaw, textExact, stepsCapped, numbersTell.
 use Prim.Native.Nat.{ℕ, zero, suc, _+_, _≤_, _<_, min}
-use mathlib.Core.Bool.{true, false, _&&_, _||_}
+use mathlib.Core.Bool.{true, false, _||_}
 use mathlib.Core.Path.{_≡_, refl, sym, ap, _∙_}
 use mathlib.Core.Logic.{_⊎_, inl, inr}
 use mathlib.Core.List.{List}
@@ -12,7 +12,7 @@ use Rattle.rules.specs.Limits.{maxSteps}
 use Rattle.rules.specs.Model.{Colour, blue, red, Instance, taskCount, fileCount, Schedule, startAt, moveAt, moved}
 use Rattle.rules.specs.Residency.{Hold, never, during, since, covers, holdOf}
 use Rattle.rules.specs.Validity.{refusedBy as refusal, judge, makespan}
-use Rattle.rules.specs.Text.{Fault, tooLong, malformed, outOfRange, undue, Source, inSheet, inTimetable, faultNumber}
+use Rattle.rules.specs.Text.{Fault, Source, inSheet, inTimetable, faultNumber}
 use Rattle.rules.specs.Calls.{mark}
 use Rattle.rules.specs.Simulation.{turns, runTurns, moveTurns, fileTurns, isTurn, faultAt, firstFaulty, Progress, refusedBy, stepsLeft, stopped, ended, numberOf, placeOf, Simulation, progressOf, watch, simulate, refusedText}
 use Rattle.rules.specs.SimulationPromises.{isFault, isOfText, FaultOf, by15, by16, by17}
@@ -24,7 +24,7 @@ use Rattle.rules.proofs.MarkerLaws.{mark-sheet, mark-timetable, mark-ju
 use Rattle.rules.proofs.TickFaultLaws.{fault-number, first-faulty}
 use Rattle.rules.proofs.WatchLaws.{Ends, walks, stops, goes, ends, progress, watch-progress}
 use Rattle.rules.proofs.WalkLaws.{run-turn, file-turn, start-turn, move-turn, hold-turn}
-use Rattle.rules.proofs.SimulatorLaws.{Texts, badSheet, badTimetable, good, texts, simulate-sheet, simulate-timetable, simulate-read, judged-no-text, sheet-formed, read-spellable, text-fault, text-zero}
+use Rattle.rules.proofs.SimulatorLaws.{Texts, badSheet, badTimetable, good, texts, simulate-sheet, simulate-timetable, simulate-read, judged-no-text, sheet-formed, read-spellable, text-number, fault-text, text-fault, text-zero}
 use Rattle.rules.proofs.CompleteLaws.{spellable-complete}
 
 -- ---- a hold that turns
@@ -136,16 +136,6 @@ turnLaw I P t = (turn-says I P t, says-turn I P t)
 
 -- ---- text refusals
 
-pub text-number : (s : Source) (w : Fault) → isOfText (faultNumber s w) ≡ true
-text-number inSheet tooLong = refl
-text-number inSheet malformed = refl
-text-number inSheet outOfRange = refl
-text-number inSheet undue = refl
-text-number inTimetable tooLong = refl
-text-number inTimetable malformed = refl
-text-number inTimetable outOfRange = refl
-text-number inTimetable undue = refl
-
 no-refusal : (I : Instance) (P : Schedule) {w n k : ℕ} {p : Progress} → Ends I P w p → p ≡ refusedBy n k → ⊥
 no-refusal I P (walks a b) q = let z : _≡_ {A = ℕ} 0 1 = cc in omega arith
 no-refusal I P (stops a b) q = let z : _≡_ {A = ℕ} 0 1 = cc in omega arith
@@ -231,14 +221,6 @@ ending-of sheet timetable made steps = go (texts sheet timetable)
             let C = spellable-complete I P c (read-spellable sheet timetable I P c e f) in
             let f = first-faulty I W P C a .holds in
             stopping (faultAt I P (firstFaulty I P)) (firstFaulty I P) (rw (fault-number I P (firstFaulty I P) (f .fault)) (number-fault I P (firstFaulty I P) (f .fault))) q
-
--- 15 to 17 are no numbers of a text
-fault-text : (n : ℕ) → isFault n ≡ true → isOfText n ≡ true → ⊥
-fault-text n f h =
-    let l = leb-true 15 n (and-true (leb 15 n) _ f .0) in
-    by-or (leb 1 n && leb n 4) _ h
-    (λ x. omega (arith, leb-true n 4 (and-true (leb 1 n) _ x .1)))
-    (λ x. omega (arith, leb-true n 14 (and-true (leb 11 n) _ x .1)))
 
 fault-positive : (n : ℕ) → isFault n ≡ true → 15 ≤ n
 fault-positive n f = leb-true 15 n (and-true (leb 15 n) _ f .0)

@@ -20,8 +20,7 @@ use Rattle.rules.proofs.WhereLaws.{count-least}
 use Rattle.rules.proofs.MarkerLaws.{mark-sheet, mark-timetable}
 use Rattle.rules.proofs.WatchLaws.{Ends, walks, stops, goes, ends, progress, watch-progress, stepLaw}
 use Rattle.rules.proofs.ProgressLaws.{progressLaw}
-use Rattle.rules.proofs.SimulatorLaws.{Texts, badSheet, badTimetable, good, texts, simulate-read, sheet-formed, read-spellable, textLaw}
-use Rattle.rules.proofs.SimulationExactLaws.{text-number}
+use Rattle.rules.proofs.SimulatorLaws.{Texts, badSheet, badTimetable, good, texts, simulate-read, sheet-formed, read-spellable, text-number, textLaw}
 
 -- ---- a tick by its number
 

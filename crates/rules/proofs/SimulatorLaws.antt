@@ -5,8 +5,8 @@ use mathlib.Core.Path.{_≡_, refl, sym, _∙_, ap}
 use mathlib.Core.List.{List}
 use native.Mathlib.Omega.{arith}
 use native.Mathlib.Decide.{decLe}
-use lib.Dec.{eqb}
-use borrow.Author.Tests.{eqb-true, eq-eqb}
+use lib.Dec.{leb, eqb}
+use borrow.Author.Tests.{leb-true, eqb-true, eq-eqb}
 use Rattle.rules.specs.Count.{countWhere}
 use Rattle.rules.specs.Limits.{maxSteps}
 use Rattle.rules.specs.Model.{Instance, Schedule}
@@ -18,7 +18,7 @@ use Rattle.rules.specs.Calls.{mark}
 use Rattle.rules.specs.Promises.{WellFormed, Spellable, First}
 use Rattle.rules.specs.Simulation.{isTurn, faultAt, firstFaulty, stepCount, stateAfter, refusedBy, stepsLeft, stopped, ended, leftOf, Simulation, progressOf, watch, refusedText, simulate}
 use Rattle.rules.specs.SimulationPromises.{isFault, isOfText, Agrees, SimulatorAgrees, GoesOn, StaysLaw, NextTick, CappedLaw, LeftLaw, PastLaw, TextLaw, SimulatorLaw}
-use Rattle.rules.proofs.Tests.{split, clash, and-true}
+use Rattle.rules.proofs.Tests.{split, clash, is-false, and-true, by-or}
 use Rattle.rules.proofs.WhereLaws.{count-yes, count-mono, count-least}
 use Rattle.rules.proofs.JudgeLaws.{Judged, by15, by16, by17, by18, by0, judged}
 use Rattle.rules.proofs.CompleteLaws.{Complete, spellable-complete}
@@ -217,25 +217,29 @@ pastLaw sheet timetable made steps made′ steps′ h l = go (texts sheet timeta
 
 -- ---- beside the marker
 
+pub text-number : (s : Source) (w : Fault) → isOfText (faultNumber s w) ≡ true
+text-number inSheet tooLong = refl
+text-number inSheet malformed = refl
+text-number inSheet outOfRange = refl
+text-number inSheet undue = refl
+text-number inTimetable tooLong = refl
+text-number inTimetable malformed = refl
+text-number inTimetable outOfRange = refl
+text-number inTimetable undue = refl
+
+-- 15 to 17 are no numbers of a text
+pub fault-text : (n : ℕ) → isFault n ≡ true → isOfText n ≡ true → ⊥
+fault-text n f h =
+    let l = leb-true 15 n (and-true (leb 15 n) _ f .0) in
+    by-or (leb 1 n && leb n 4) _ h
+    (λ x. omega (arith, leb-true n 4 (and-true (leb 1 n) _ x .1)))
+    (λ x. omega (arith, leb-true n 14 (and-true (leb 11 n) _ x .1)))
+
 pub text-fault : (s : Source) (w : Fault) → isFault (faultNumber s w) ≡ false
-text-fault inSheet tooLong = refl
-text-fault inSheet malformed = refl
-text-fault inSheet outOfRange = refl
-text-fault inSheet undue = refl
-text-fault inTimetable tooLong = refl
-text-fault inTimetable malformed = refl
-text-fault inTimetable outOfRange = refl
-text-fault inTimetable undue = refl
+text-fault s w = is-false _ (λ h. fault-text (faultNumber s w) h (text-number s w))
 
 pub text-zero : (s : Source) (w : Fault) → eqb (faultNumber s w) 0 ≡ false
-text-zero inSheet tooLong = refl
-text-zero inSheet malformed = refl
-text-zero inSheet outOfRange = refl
-text-zero inSheet undue = refl
-text-zero inTimetable tooLong = refl
-text-zero inTimetable malformed = refl
-text-zero inTimetable outOfRange = refl
-text-zero inTimetable undue = refl
+text-zero s w = is-false _ (λ h. let z : isOfText 0 ≡ true = rw (eqb-true (faultNumber s w) 0 h) at (text-number s w) in clash z refl)
 
 not-stopped : {R : Type 0} {number place n t : ℕ} → refusedBy number place ≡ stopped n t → R
 not-stopped e = let z : _≡_ {A = ℕ} 0 1 = cc in absurd (omega arith)
