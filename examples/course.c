@@ -1,4 +1,4 @@
-/* Plans the course example (docs/RULES.md) by both planners, marks the plans, and steps through one. */
+/* Plans the course example (docs/RULES.md) by MemHEFT and MemMinMin, marks the plans, and steps through one. */
 #include <stdio.h>
 #include <string.h>
 

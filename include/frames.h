@@ -26,7 +26,8 @@ extern "C" {
 #define FRAMES_STACK 32768
 
 /* The numbers that a call answers. The place is what stands in brackets; lines and tasks are counted from 1. The marker answers 0, 1 to 4 and 11
- * to 18, a planner 0, 1 to 4, 21 and 31, the simulator 0, 1 to 4 and 11 to 17, where the place of 15, 16 and 17 is the faulty tick. */
+ * to 18, a planner 0, 1 to 4, 31 and, if it is memory-aware, 21, the simulator 0, 1 to 4 and 11 to 17, where the place of 15, 16 and 17 is the
+ * faulty tick. */
 enum frames_number {
     FRAMES_OK = 0,                   /* accepted (0), planned (bytes written), or simulated (0) */
     FRAMES_SHEET_TOO_LONG = 1,       /* the board sheet is over FRAMES_MAX_TEXT bytes (0) */
@@ -41,7 +42,7 @@ enum frames_number {
     FRAMES_EARLY = 16,               /* a task starts before a file that it reads has arrived, or a file moves before it is made (lowest reader) */
     FRAMES_OVER_LIMIT = 17,          /* a memory holds more than its limit (first such tick) */
     FRAMES_CLAIM_UNTRUE = 18,        /* the claim is untrue (0) */
-    FRAMES_STUCK = 21,               /* the planner is stuck: no ready task fits (tasks placed) */
+    FRAMES_STUCK = 21,               /* the memory-aware planner is stuck: no ready task fits (tasks placed) */
     FRAMES_BUFFER_TOO_SHORT = 31     /* the lent buffer is too short for the timetable (bytes needed) */
 };
 
@@ -58,6 +59,14 @@ void frames_mem_heft(const uint8_t *sheet, size_t sheet_len, uint8_t *out, size_
 
 /* The same by MemMinMin. */
 void frames_mem_min_min(const uint8_t *sheet, size_t sheet_len, uint8_t *out, size_t out_len, uint64_t result[3]);
+
+/* The same by HEFT, MemHEFT's plain parent, which does not look at the memories: it never answers 21, and its timetable may be over a limit. The
+ * claim is true all the same; frames_mark accepts the timetable on this sheet, or answers 17 and no other number. When each limit is at least the
+ * sum of all file sizes, frames_mem_heft gives the same numbers and the same bytes. */
+void frames_heft(const uint8_t *sheet, size_t sheet_len, uint8_t *out, size_t out_len, uint64_t result[3]);
+
+/* The same by MINMIN, MemMinMin's plain parent, with frames_mem_min_min in place of frames_mem_heft. */
+void frames_min_min(const uint8_t *sheet, size_t sheet_len, uint8_t *out, size_t out_len, uint64_t result[3]);
 
 /* Simulates a timetable (paper) on a board sheet, from before the first step (time 0, nothing running or held); each step goes to the next tick at
  * which a run, a move or a hold starts or ends. `made` steps are already made, and `steps` are to be made, over 1024 counting as 1024. Both may be

@@ -39,13 +39,11 @@ static void expect_that(const char *what, int holds) {
     }
 }
 
-/* NULL stands for a text or a buffer of length 0; the line and the timetable are written at the front alone, and only if they fit. */
+/* NULL stands for a text or a buffer of length 0; the line is written at the front alone, and only if it fits. */
 static void null_and_short(void) {
     text sheet = as_text(course);
     uint64_t verdict[5];
-    uint64_t answer[3];
     uint8_t line[40];
-    uint8_t out[100];
     frames_mark(NULL, 0, NULL, 0, verdict);
     EXPECT("no sheet, no paper", verdict, FRAMES_SHEET_MALFORMED, 1, 0, 0, 0);
     frames_mark(sheet.bytes, sheet.len, NULL, 0, verdict);
@@ -58,19 +56,69 @@ static void null_and_short(void) {
     expect_that("a line in 4 bytes", frames_fault_line(sheet.bytes, sheet.len, (const uint8_t *)"(run)\n", 6, line, 4) == 5 && line[0] == 7);
     expect_that("a line in 5 bytes",
                 frames_fault_line(sheet.bytes, sheet.len, (const uint8_t *)"(run)\n", 6, line, 5) == 5 && memcmp(line, "(run)\7", 6) == 0);
-    frames_mem_heft(NULL, 0, NULL, 0, answer);
-    EXPECT("no sheet to plan", answer, FRAMES_SHEET_MALFORMED, 1, 0);
-    frames_mem_heft(sheet.bytes, sheet.len, NULL, 0, answer);
-    EXPECT("MemHEFT, no buffer", answer, FRAMES_BUFFER_TOO_SHORT, 76, 6);
-    frames_mem_min_min(sheet.bytes, sheet.len, NULL, 0, answer);
-    EXPECT("MemMinMin, no buffer", answer, FRAMES_BUFFER_TOO_SHORT, 76, 8);
-    memset(out, 7, sizeof out);
-    frames_mem_heft(sheet.bytes, sheet.len, out, 75, answer);
-    EXPECT("MemHEFT, a byte too short", answer, FRAMES_BUFFER_TOO_SHORT, 76, 6);
-    expect_that("the short buffer stays", out[0] == 7 && out[74] == 7);
-    frames_mem_heft(sheet.bytes, sheet.len, out, sizeof out, answer);
-    EXPECT("MemHEFT", answer, FRAMES_OK, 76, 6);
-    expect_that("the timetable, and the byte behind it", memcmp(out, paper, 76) == 0 && out[76] == 7);
+}
+
+typedef void planner(const uint8_t *sheet, size_t sheet_len, uint8_t *out, size_t out_len, uint64_t result[3]);
+
+/* The planners, whether each is memory-aware, and the trials that it makes on the course example; all write the same there. */
+static const struct {
+    const char *name;
+    planner *call;
+    int aware;
+    uint64_t trials;
+} planners[] = {
+    {"MemHEFT", frames_mem_heft, 1, 6},
+    {"MemMinMin", frames_mem_min_min, 1, 8},
+    {"HEFT", frames_heft, 0, 6},
+    {"MINMIN", frames_min_min, 0, 8},
+};
+
+#define PLANNERS (sizeof planners / sizeof planners[0])
+
+/* A planner's call with its number, place and trials. */
+static void planned(size_t at, const char *what, text sheet, uint8_t *out, size_t len, uint64_t number, uint64_t place, uint64_t trials) {
+    uint64_t answer[3];
+    char name[60];
+    snprintf(name, sizeof name, "%s, %s", planners[at].name, what);
+    planners[at].call(sheet.bytes, sheet.len, out, len, answer);
+    EXPECT(name, answer, number, place, trials);
+}
+
+/* NULL again; the timetable is written at the front alone, and only if it fits. */
+static void planners_null_and_short(void) {
+    text sheet = as_text(course), none = {NULL, 0};
+    uint8_t out[100], painted[100];
+    memset(painted, 7, sizeof painted);
+    for (size_t i = 0; i < PLANNERS; i++) {
+        uint64_t trials = planners[i].trials;
+        memcpy(out, painted, sizeof out);
+        planned(i, "no sheet", none, NULL, 0, FRAMES_SHEET_MALFORMED, 1, 0);
+        planned(i, "no number", as_text("(board)\n"), out, sizeof out, FRAMES_SHEET_MALFORMED, 1, 0);
+        planned(i, "no buffer", sheet, NULL, 0, FRAMES_BUFFER_TOO_SHORT, 76, trials);
+        planned(i, "a byte too short", sheet, out, 75, FRAMES_BUFFER_TOO_SHORT, 76, trials);
+        expect_that("the buffer after refusals", memcmp(out, painted, sizeof out) == 0);
+        planned(i, "a byte more", sheet, out, 77, FRAMES_OK, 76, trials);
+        expect_that("the timetable, and the bytes behind it", memcmp(out, paper, 76) == 0 && memcmp(out + 76, painted, 24) == 0);
+    }
+}
+
+/* The course example with both limits 4: the memory-aware planners are stuck, the plain ones write what they wrote, and the marker says 17. */
+static void over_a_limit(void) {
+    text sheet = as_text("(board (blue 1 4) (red 1 4))\n(task 1 4 2)\n(task 2 3 5)\n(task 3 2 6)\n(file 1 2 2 1)\n(file 1 3 3 2)\n");
+    for (size_t i = 0; i < PLANNERS; i++) {
+        uint64_t verdict[5];
+        uint8_t out[76];
+        memset(out, 7, sizeof out);
+        if (planners[i].aware) {
+            planned(i, "limits 4", sheet, out, sizeof out, FRAMES_STUCK, 0, 2);
+            expect_that("the buffer of a planner that is stuck", out[0] == 7 && out[75] == 7);
+        } else {
+            planned(i, "limits 4", sheet, out, sizeof out, FRAMES_OK, 76, planners[i].trials);
+            expect_that("the timetable, limits 4", memcmp(out, paper, 76) == 0);
+            frames_mark(sheet.bytes, sheet.len, out, sizeof out, verdict);
+            EXPECT("the marker, limits 4", verdict, FRAMES_OVER_LIMIT, 0, 0, 0, 0);
+        }
+    }
 }
 
 /* The simulator's three arrays with a word on both sides of each. */
@@ -164,17 +212,12 @@ static void *call_fault_line(void *unused) {
     return NULL;
 }
 
-static void *call_mem_heft(void *unused) {
-    (void)unused;
-    text s = as_text(large);
-    frames_mem_heft(s.bytes, s.len, room, sizeof room, last);
-    return NULL;
-}
+static planner *measured_planner;
 
-static void *call_mem_min_min(void *unused) {
+static void *call_planner(void *unused) {
     (void)unused;
     text s = as_text(large);
-    frames_mem_min_min(s.bytes, s.len, room, sizeof room, last);
+    measured_planner(s.bytes, s.len, room, sizeof room, last);
     return NULL;
 }
 
@@ -220,31 +263,25 @@ static size_t measured(const char *what, void *(*call)(void *)) {
 static void stacks(void) {
     size_t mark = measured("frames_mark", call_mark);
     size_t line = measured("frames_fault_line", call_fault_line);
-    size_t heft = measured("frames_mem_heft", call_mem_heft);
-    size_t min_min = measured("frames_mem_min_min", call_mem_min_min);
-    size_t simulate = measured("frames_simulate", call_simulate);
-    printf("stack on the largest sheet, in bytes: marker %zu, line at fault %zu, MemHEFT %zu, MemMinMin %zu, simulator %zu\n", mark, line, heft,
-           min_min, simulate);
+    printf("stack on the largest sheet, in bytes: marker %zu, line at fault %zu", mark, line);
+    for (size_t i = 0; i < PLANNERS; i++) {
+        measured_planner = planners[i].call;
+        printf(", %s %zu", planners[i].name, measured(planners[i].name, call_planner));
+    }
+    printf(", simulator %zu\n", measured("frames_simulate", call_simulate));
 }
 
 /* Calls on several threads at once give what each gives alone. */
 static void *many_calls(void *unused) {
     for (int i = 0; i < 200; i++) {
         uint8_t out[FRAMES_MAX_TEXT];
-        uint64_t answer[3];
         uint64_t verdict[5];
         text sheet = as_text(course);
-        if (i % 2 == 0) {
-            frames_mem_heft(sheet.bytes, sheet.len, out, sizeof out, answer);
-            EXPECT("MemHEFT beside others", answer, FRAMES_OK, 76, 6);
-        } else {
-            frames_mem_min_min(sheet.bytes, sheet.len, out, sizeof out, answer);
-            EXPECT("MemMinMin beside others", answer, FRAMES_OK, 76, 8);
-        }
-        frames_mark(sheet.bytes, sheet.len, out, answer[1], verdict);
+        planned(i % PLANNERS, "beside others", sheet, out, sizeof out, FRAMES_OK, 76, planners[i % PLANNERS].trials);
+        frames_mark(sheet.bytes, sheet.len, out, 76, verdict);
         EXPECT("the marker beside others", verdict, FRAMES_OK, 0, 8, 5, 5);
         simulation s;
-        text table = {out, answer[1]};
+        text table = {out, 76};
         simulated("the simulator beside others", &s, sheet, table, i % 3, 3 - i % 3);
         EXPECT("the simulator beside others", s.result, FRAMES_OK, 0, 1, 0, 3, 3);
         expect_state("the simulator beside others", &s, 2, 0, 1, 2);
@@ -264,10 +301,12 @@ static void threads(void) {
 
 int main(void) {
     null_and_short();
+    planners_null_and_short();
+    over_a_limit();
     simulator();
     make_large();
     stacks();
     threads();
-    puts("calls from C: NULL, short buffers, the simulator's arrays, stack and threads as include/frames.h says");
+    puts("calls from C: NULL, short buffers, plans over a limit, the simulator's arrays, stack and threads as include/frames.h says");
     return 0;
 }

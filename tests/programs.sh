@@ -43,6 +43,13 @@ printf '%s' "$relayed" > relay.paper
 sed 's/(run 2 2 2)/(run 2 2 1)/' relay.paper > inside.paper
 sed 's/(run 4 1 6)/(run 4 2 2)/; /(move 2 4 4)/d; s/(claim 8 5 6)/(claim 8 2 6)/' relay.paper > at_start.paper
 sed 's/6)/5)/2' relay.sheet > relay_tight.sheet
+printf '(%s)\n' 'board (blue 1 1) (red 1 1)' 'task 1 1 1' 'task 2 1 1' 'task 3 2 1' 'file 2 3 1 1' > apart.sheet
+apart=$(printf '(%s)\n' 'run 1 2 0' 'run 2 1 0' 'run 3 1 1' 'claim 3 1 0' 'run 1 1 0' 'run 2 2 0' 'run 3 2 1' 'claim 2 0 1')$'\n'
+printf '(%s)\n' 'board (blue 1 1) (red 1 0)' 'task 1 2 1' 'task 2 1 2' 'task 3 1 1' 'file 1 2 1 1' > four.sheet
+four=$(printf '(%s)\n' 'run 1 2 0' 'run 2 1 2' 'run 3 2 1' 'move 1 2 1' 'claim 3 1 1' \
+    'run 1 1 0' 'run 2 1 2' 'run 3 2 0' 'claim 3 1 0' \
+    'run 1 2 0' 'run 2 1 2' 'run 3 1 0' 'move 1 2 1' 'claim 3 1 1' \
+    'run 1 1 1' 'run 2 1 3' 'run 3 1 0' 'claim 4 1 0')$'\n'
 sed '2s/.*//' paper > empty_line.paper
 { head -n 1 paper; printf '(run\t2 1\\ 3)\033[31m\377\n'; tail -n +3 paper; } > control.paper
 escaped='(run\x092 1\\ 3)\x1b[31m\xff'
@@ -66,7 +73,7 @@ long=$(head -c 5000 /dev/zero | tr '\0' a)
 path_max=${long:0:4096}
 
 # ---- frameplan
-usage='usage: frameplan [memheft|memminmin] < SHEET'$'\n'
+usage='usage: frameplan [memheft|memminmin|heft|minmin] < SHEET'$'\n'
 expect 'a good sheet' 'frameplan < sheet' "$timetable" ''
 expect 'MemHEFT by name' 'frameplan memheft < sheet' "$timetable" ''
 expect 'MemMinMin by name' 'frameplan memminmin < sheet' "$timetable" ''
@@ -88,7 +95,16 @@ expect 'closed standard input' 'frameplan <&-' '' $'frameplan: standard input: B
 expect 'no room for the timetable' 'frameplan < sheet > /dev/full' '' $'frameplan: standard output: No space left on device\n'
 expect 'no room for a refusal' 'frameplan < /dev/null > /dev/full' '' $'frameplan: standard output: No space left on device\n'
 expect 'closed standard output' 'frameplan < sheet >&-' '' $'frameplan: standard output: Bad file descriptor\n'
-expect 'an unknown planner' 'frameplan heft < sheet' '' "$usage"
+expect 'HEFT by name' 'frameplan heft < sheet' "$timetable" ''
+expect 'MINMIN by name' 'frameplan minmin < sheet' "$timetable" ''
+expect 'HEFT where MemHEFT is stuck' 'frameplan heft < tight.sheet' "$timetable" ''
+expect 'MINMIN where MemMinMin is stuck' 'frameplan minmin < tight.sheet' "$timetable" ''
+expect 'HEFT, a refused sheet' 'frameplan heft < bad.sheet' $'(refused 3 3)\n' ''
+expect 'MINMIN, a sheet of 32769 bytes' 'frameplan minmin < 32769.sheet' $'(refused 1 0)\n' ''
+expect 'HEFT and MINMIN apart' 'frameplan heft < apart.sheet; frameplan minmin < apart.sheet' "$apart" ''
+expect 'all four apart' 'for p in heft memheft minmin memminmin; do frameplan $p < four.sheet; done' "$four" ''
+expect 'an unknown planner' 'frameplan memhef < sheet' '' "$usage"
+expect 'a planner in capitals' 'frameplan HEFT < sheet' '' "$usage"
 expect 'an empty argument' 'frameplan "" < sheet' '' "$usage"
 expect 'an argument longer than a planner name' "frameplan $long < sheet" '' "$usage"
 expect 'two arguments' 'frameplan memheft sheet' '' "$usage"

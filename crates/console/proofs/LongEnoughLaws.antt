@@ -14,6 +14,6 @@ use Rattle.console.specs.LongEnough.{LongEnough}
 pub long-enough : (R : Planner) (sheet buffer out : List ℕ) (a : Answer) → maxText ≤ length buffer → length out ≡ length buffer
     → PlannerDemands R sheet buffer (asAnswer a out) → LongEnough a out
 long-enough R sheet buffer out a h l p = record {
-  within = λ z. let w = p .readBack z .written in omega (arith, w .place, w .rule .fits, l);
+  within = λ z. let w = p .marked z .written in omega (arith, w .place, w .rule .fits, l);
   notShort = p .roomy h;
 }

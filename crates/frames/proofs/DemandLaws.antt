@@ -1,12 +1,12 @@
 -- An answer that equals its definition keeps the demands.
 use Prim.Native.Nat.{ℕ, _≤_}
-use mathlib.Core.Path.{_≡_, ap}
+use mathlib.Core.Path.{_≡_, ap, _∙_}
 use mathlib.Core.List.{List}
 use native.Mathlib.Omega.{arith}
 use lib.ListN.{length}
 use Rattle.rules.specs.Limits.{maxText}
 use Rattle.rules.specs.Validity.{Verdict}
-use Rattle.rules.specs.Scheduling.{Planner}
+use Rattle.rules.specs.Scheduling.{aware, plain, Planner, heft, memoryOf}
 use Rattle.rules.specs.Text.{inSheet, inTimetable, faultNumber}
 use Rattle.rules.specs.Calls.{Answer, mark, plan}
 use Rattle.rules.specs.CallsExact.{Planned, byText, by21, by31, by0}
@@ -16,11 +16,12 @@ use Rattle.rules.proofs.ScheduleFaultLaws.{scheduleFaults}
 use Rattle.rules.proofs.MarkerLaws.{markerEnds, markerExact, mark-sheet, mark-timetable}
 use Rattle.rules.proofs.PlannerLaws.{plannerEnds, plannerExact, plansShort, readBack, ampleMemory, plan-refused, plan-trials}
 use Rattle.rules.proofs.CallsExactLaws.{markCall, planCall}
+use Rattle.rules.proofs.PlainPlannerLaws.{heftTrials, plainExact, neverStuck, planMarked, plainParent, ampleReadBack}
 use Rattle.rules.specs.Simulation.{Simulation, simulate}
 use Rattle.rules.proofs.SimulatorLaws.{simulatorLaw, simulate-sheet, simulate-timetable}
 use Rattle.rules.proofs.SimulationExactLaws.{textExact, numbersTell}
 use Rattle.rules.proofs.TrialLaws.{trialBound}
-use Rattle.frames.specs.Demands.{MarkerDemands, PlannerDemands, SimulatorDemands}
+use Rattle.frames.specs.Demands.{MarkerDemands, PlannerDemands, AwareDemands, PlainDemands, TwoTrialsATask, SimulatorDemands}
 use Rattle.frames.proofs.FaultLaws.{marked-by-sheet, marked-by-paper, planned-by-sheet, sheet-numbers}
 
 -- ---- the marker
@@ -62,13 +63,26 @@ module _ (R : Planner) (sheet buffer : List ℕ) where
           (ap (λ a. a .number) a, ap (λ a. a .place) a)),
     );
     roomy = never-short (planCall R sheet buffer);
-    readBack = readBack R sheet buffer;
+    marked = planMarked R sheet buffer;
     ample = λ I e ample. let C = ampleMemory R sheet I e ample in (C, C .success buffer);
     trials = λ I e. let q = plan-trials R sheet buffer I e in (q, rw q (trialBound R I));
   }
 
   pub planner-demands : {a : Answer} → a ≡ plan R sheet buffer → PlannerDemands R sheet buffer a
   planner-demands e = rw e plan-demands
+
+  pub aware-demands : memoryOf R ≡ aware → {a : Answer} → a ≡ plan R sheet buffer → AwareDemands R sheet buffer a
+  aware-demands m e = rw e (record { readBack = readBack R m sheet buffer; parent = plainParent R sheet buffer })
+
+  pub plain-demands : memoryOf R ≡ plain → {a : Answer} → a ≡ plan R sheet buffer → PlainDemands R sheet buffer a
+  plain-demands m e = rw e (record {
+    neverStuck = neverStuck R m sheet buffer;
+    plainly = plainExact R m sheet buffer;
+    ampleBack = ampleReadBack R sheet buffer;
+  })
+
+pub two-trials : (sheet buffer : List ℕ) {a : Answer} → a ≡ plan (heft plain) sheet buffer → TwoTrialsATask sheet a
+two-trials sheet buffer e I s = ap (λ a. a .trials) e ∙ plan-trials (heft plain) sheet buffer I s ∙ heftTrials I (sheetExact sheet I .0 s .0)
 
 -- ---- the simulator
 module _ (sheet paper : List ℕ) (made steps : ℕ) where

@@ -5,15 +5,15 @@ use mathlib.Core.Logic.{_↔_}
 use mathlib.Core.List.{List}
 use lib.ListN.{length}
 use Rattle.rules.specs.Limits.{maxText}
-use Rattle.rules.specs.Model.{Colour, Instance, limitOf, taskCount, allSizes}
-use Rattle.rules.specs.Validity.{Verdict, refusedBy, trueClaim}
-use Rattle.rules.specs.Scheduling.{Planner, outcome}
+use Rattle.rules.specs.Model.{Instance, taskCount}
+use Rattle.rules.specs.Validity.{Verdict, refusedBy}
+use Rattle.rules.specs.Scheduling.{Planner, parentOf, outcome}
 use Rattle.rules.specs.Text.{Fault, inSheet, inTimetable, faultNumber}
 use Rattle.rules.specs.InstanceText.{accepted, readInstance}
-use Rattle.rules.specs.ScheduleText.{scheduleText}
-use Rattle.rules.specs.Calls.{Answer}
-use Rattle.rules.specs.Promises.{MarkedOrRefused, MarkedExactly, WrittenOrRefused, PlannedExactly, AcceptedBack, Completes, trialsOf}
+use Rattle.rules.specs.Calls.{Answer, planText, plan}
+use Rattle.rules.specs.Promises.{MarkedOrRefused, MarkedExactly, WrittenOrRefused, PlannedExactly, AcceptedBack, Completes, Ample, trialsOf}
 use Rattle.rules.specs.CallsExact.{Marking, Planned}
+use Rattle.rules.specs.PlainPlanners.{PlannedPlainly, MarkedBack}
 use Rattle.rules.specs.SheetFaults.{SheetFault}
 use Rattle.rules.specs.ScheduleFaults.{ScheduleFault}
 use Rattle.rules.specs.Simulation.{Simulation, refusedBy as refusedText}
@@ -34,7 +34,7 @@ pub record MarkerDemands (sheet paper : List ℕ) (v : Verdict) : Type 0 where
   pub paperFault : (I : Instance) → readInstance sheet ≡ accepted I → (w : Fault) (k : ℕ)
       → (v ≡ refusedBy (faultNumber inTimetable w) k) ↔ ScheduleFault I paper w k
 
--- what a planner's answer a promises, with the bytes that the lent buffer then holds
+-- what every planner's answer a promises, with the bytes that the lent buffer then holds
 pub record PlannerDemands (R : Planner) (sheet buffer : List ℕ) (a : Answer) : Type 0 where
   -- success, or one refusal that is listed for a planner, with the buffer as it was. Not: the first lines written before 31
   pub ends : WrittenOrRefused buffer a
@@ -46,13 +46,37 @@ pub record PlannerDemands (R : Planner) (sheet buffer : List ℕ) (a : Answer) :
   pub sheetFault : (w : Fault) (k : ℕ) → ((a .number ≡ faultNumber inSheet w) × (a .place ≡ k)) ↔ SheetFault sheet w k
   -- a buffer as long as a text may be is never too short. Not: 31 whatever the buffer
   pub roomy : maxText ≤ length buffer → a .number ≡ 31 → ⊥
-  -- what was written is accepted when read back, with the span and peaks it claims. Not: one line only. Alone it is met by a planner that never succeeds
-  pub readBack : a .number ≡ 0 → AcceptedBack R sheet buffer a
+  -- what was written carries a true claim; read back it is accepted exactly if it keeps the limits, and refused by 17 exactly at the first instant over
+  -- one, by nothing else. Not: one line only; a claim made of the limits. Alone it is met by a planner that never succeeds
+  pub marked : a .number ≡ 0 → MarkedBack R sheet buffer a
   -- with limits of at least all file sizes and a buffer as long as the timetable it succeeds. Not: stuck on each sheet
-  pub ample : (I : Instance) → readInstance sheet ≡ accepted I → ((c : Colour) → allSizes I ≤ limitOf I c)
-      → (C : Completes R sheet I) × (length (scheduleText I (C .schedule) (trueClaim I (C .schedule))) ≤ length buffer → a .number ≡ 0)
+  pub ample : (I : Instance) → readInstance sheet ≡ accepted I → Ample I
+      → (C : Completes R sheet I) × (length (planText I (C .schedule)) ≤ length buffer → a .number ≡ 0)
   -- for an accepted sheet the trials are those of the rule, also after 21 and 31, and at most n × (n + 1). Not: a made-up count
   pub trials : (I : Instance) → readInstance sheet ≡ accepted I → (a .trials ≡ trialsOf (outcome R I)) × (a .trials ≤ taskCount I * (taskCount I + 1))
+
+-- what the answer of a memory-aware planner promises besides
+pub record AwareDemands (R : Planner) (sheet buffer : List ℕ) (a : Answer) : Type 0 where
+  -- what was written is accepted when read back, with the span and peaks it claims. Not: a plan over a limit. Alone it is met by a planner that never
+  -- succeeds
+  pub readBack : a .number ≡ 0 → AcceptedBack R sheet buffer a
+  -- with limits of at least all file sizes the whole answer, trials and every byte too, is that of its plain parent. Not: a task that waits for memory
+  -- while all files fit
+  pub parent : (I : Instance) → readInstance sheet ≡ accepted I → Ample I → a ≡ plan (parentOf R) sheet buffer
+
+-- what the answer of a plain planner promises besides
+pub record PlainDemands (R : Planner) (sheet buffer : List ℕ) (a : Answer) : Type 0 where
+  -- never stuck. Not: 21 where memory is short
+  pub neverStuck : a .number ≡ 21 → ⊥
+  -- for an accepted sheet, whatever the limits: success with the text written exactly if it fits the buffer, else 31 with the bytes needed. Not: every
+  -- sheet refused
+  pub plainly : (I : Instance) → readInstance sheet ≡ accepted I → PlannedPlainly R I buffer a
+  -- with limits of at least all file sizes what was written is accepted when read back. Not: 17 while all files fit
+  pub ampleBack : (I : Instance) → readInstance sheet ≡ accepted I → Ample I → a .number ≡ 0 → AcceptedBack R sheet buffer a
+
+-- HEFT's trials: two for each task of an accepted sheet, also after 31. Not: every ready task tried
+abbrev pub TwoTrialsATask : List ℕ → Answer → Type 0
+TwoTrialsATask sheet a = (I : Instance) → readInstance sheet ≡ accepted I → a .trials ≡ 2 * taskCount I
 
 -- what the simulator's answer a promises, for so many steps made and to make
 pub record SimulatorDemands (sheet paper : List ℕ) (made steps : ℕ) (a : Simulation) : Type 0 where

@@ -4,7 +4,7 @@ ghost use mathlib.Core.Bool.{cond};
 ghost use lib.Dec.{leb};
 ghost use lib.ListN.{length};
 ghost use Rattle.rules.specs.Calls.{mark as rules-mark, faultLine, overwritten, plan as rules-plan};
-ghost use Rattle.rules.specs.Scheduling.{memHeft, memMinMin};
+ghost use Rattle.rules.specs.Scheduling.{plain, heft, minMin, memHeft, memMinMin};
 ghost use Rattle.rules.specs.Simulation.{simulate as rules-simulate};
 ghost use Rattle.frames.specs.Exports.{verdictNumbers, answerNumbers, simulationNumbers};
 use crate::marker;
@@ -53,6 +53,26 @@ pub extern "C" fn frames_mem_min_min(sheet: &[u8], out: &mut [u8], result: &mut 
     ensures { λ r. ⌜ now (out .exit) ≡ rules-plan memMinMin (now (sheet .entry)) (now (out .entry)) .buffer ⌝ }
 {
     let a = planners::mem_min_min(sheet, out);
+    *result = [a.number, a.place, a.trials];
+}
+
+// The same of `heft`.
+#[no_mangle]
+pub extern "C" fn frames_heft(sheet: &[u8], out: &mut [u8], result: &mut [u64; 3])
+    ensures { λ r. ⌜ now (result .exit) ≡ answerNumbers (rules-plan (heft plain) (now (sheet .entry)) (now (out .entry))) ⌝ }
+    ensures { λ r. ⌜ now (out .exit) ≡ rules-plan (heft plain) (now (sheet .entry)) (now (out .entry)) .buffer ⌝ }
+{
+    let a = planners::heft(sheet, out);
+    *result = [a.number, a.place, a.trials];
+}
+
+// The same of `min_min`.
+#[no_mangle]
+pub extern "C" fn frames_min_min(sheet: &[u8], out: &mut [u8], result: &mut [u64; 3])
+    ensures { λ r. ⌜ now (result .exit) ≡ answerNumbers (rules-plan (minMin plain) (now (sheet .entry)) (now (out .entry))) ⌝ }
+    ensures { λ r. ⌜ now (out .exit) ≡ rules-plan (minMin plain) (now (sheet .entry)) (now (out .entry)) .buffer ⌝ }
+{
+    let a = planners::min_min(sheet, out);
     *result = [a.number, a.place, a.trials];
 }
 

@@ -7,13 +7,12 @@ use borrow.Author.Tests.{le-leb, lt-leb}
 use Rattle.rules.specs.Model.{Instance, Schedule}
 use Rattle.rules.specs.Scheduling as Rules
 use Rattle.rules.specs.Scheduling.{Planner, outcome}
-use Rattle.rules.specs.Calls.{written, planMade, planOn}
+use Rattle.rules.specs.Calls.{planText, written, planMade, planOn}
 use Rattle.rules.specs.Calls as Calls
 use Rattle.text.specs.Wrote.{Wrote}
 use Rattle.planner.specs.declared.Outcome.{Outcome}
 use Rattle.planner.specs.declared.Outcome.the-variants as Made
 use Rattle.planner.specs.Outcomes.{asOutcome}
-use Rattle.plan_text.specs.Answers.{planText}
 
 -- ---- the text fits, or not
 

@@ -1,10 +1,10 @@
 // An instance planned, and its timetable written into a lent buffer.
 ghost use mathlib.Core.Path.{_≡_};
-ghost use Rattle.rules.specs.Calls.{written, planOn};
+ghost use Rattle.rules.specs.Calls.{planText, written, planOn};
 ghost use Rattle.rules.specs.Promises.{WellFormed};
 ghost use Rattle.model.specs.Layout.{entriesOf, instanceOf, scheduleOf, InBounds, Placed};
 ghost use Rattle.planner.specs.Outcomes.{asPlanner};
-ghost use Rattle.plan_text.specs.Answers.{planText, asAnswer};
+ghost use Rattle.plan_text.specs.Answers.{asAnswer};
 use claims::true_claim;
 use model::layout;
 use model::layout::Shape;

@@ -7,7 +7,7 @@ use native.Mathlib.Omega.{arith}
 use native.Mathlib.Numerals.{add-one}
 use Rattle.rules.specs.Limits.{maxTasks, ticks}
 use Rattle.rules.specs.Model.{Instance, taskCount}
-use Rattle.rules.specs.Scheduling.{Partial, empty, assign, nothing, choose, Planner, roundOf, complete, stuck, rounds, outcome, processorStart}
+use Rattle.rules.specs.Scheduling.{Partial, empty, assign, nothing, choose, Planner, memoryOf, roundOf, complete, stuck, rounds, outcome, processorStart}
 use Rattle.rules.specs.Promises.{WellFormed, Trial}
 use Rattle.rules.proofs.RoundLaws.{round-trial}
 use Rattle.rules.proofs.SoundLaws.{Sound, stride, start-processor, assign-sound, empty-sound, moveBound}
@@ -92,17 +92,17 @@ module _ (R : Planner) (b : Shape) (J : Job) (W : WellFormed (instanceFrom b J))
           chosen-is : roundOf R I Q .choice ≡ choose i (asColour colour) s
           chosen-is = sym choice-is ∙ rw chosen
 
-          trial : Trial I Q i (asColour colour) s
+          trial : Trial (memoryOf R) I Q i (asColour colour) s
           trial = round-trial R I Q i (asColour colour) s chosen-is
 
           pub planning-processor : processorStart I Q (asColour colour) ≤ s
-          planning-processor = start-processor I W placed Q (p .sound) i (asColour colour) s trial
+          planning-processor = start-processor I W placed Q (p .sound) (memoryOf R) i (asColour colour) s trial
 
           pub planning-next : (L′ : Entries) (last′ : List ℕ) → partialFrom b L′ last′ ≡ assign I Q i (asColour colour) s → x .trials ≤ 2 * b .tasks
               → Planning R b J L′ last′ (placed + 1) (trials + x .trials)
           planning-next L′ last′ q t = record {
             most = omega arith;
-            sound = rw (add-one placed, q) (assign-sound I W placed Q (p .sound) i (asColour colour) s trial);
+            sound = rw (add-one placed, q) (assign-sound I W placed Q (p .sound) (memoryOf R) i (asColour colour) s trial);
             rest = p .rest ∙ rw (one-more, q, trials-are) (rounds-place R I (b .tasks - (placed + 1)) Q trials i (asColour colour) s chosen-is);
             counted = omega (arith, p .counted, job-bounds b J W .tasks);
           }

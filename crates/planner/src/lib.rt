@@ -1,4 +1,4 @@
-// MemHEFT and MemMinMin: rounds, each of which places one task, until all are placed or none fits.
+// The planners: rounds, each of which places one task, until all are placed or none fits.
 ghost use mathlib.Core.Path.{_≡_};
 ghost use Prim.Native.Nat.{_*_, _≤_};
 ghost use lib.ListN.{getD, replicate};
@@ -18,11 +18,12 @@ use selection::round::Round;
 use selection::round::earliest_round;
 use selection::round::first_that_fits;
 use selection::trial::Choice;
+use starts::memory::Memory;
 
-// The two planners.
+// HEFT and MINMIN: memory aware, or plain.
 pub enum Rule {
-    MemHeft,
-    MemMinMin,
+    Heft(Memory),
+    MinMin(Memory),
 }
 
 // All tasks placed, or stuck after so many; and the trials made.
@@ -31,7 +32,7 @@ pub enum Outcome {
     Stuck { placed: u64, trials: u64 },
 }
 
-// One round of the planner; `order` is MemHEFT's list.
+// One round of the planner; `order` is HEFT's list.
 fn round<'a>(
     rule: Rule,
     shape: Shape,
@@ -49,8 +50,8 @@ fn round<'a>(
     ensures { λ r. ⌜ ChoiceBounds shape (r .choice) × (r .trials ≤ 2 * shape .tasks) ⌝ }
 {
     match rule {
-        Rule::MemHeft => first_that_fits(shape, job, schedule, last, order),
-        Rule::MemMinMin => earliest_round(shape, job, schedule, last),
+        Rule::Heft(memory) => first_that_fits(memory, shape, job, schedule, last, order),
+        Rule::MinMin(memory) => earliest_round(memory, shape, job, schedule, last),
     }
 }
 

@@ -112,9 +112,9 @@ module _ (I : Instance) (W : WellFormed I) (P : Schedule) (T : RunsTakeTime I P)
     apart = apart-former (v .apart);
     onTime = v .onTime;
     within = within-former I W P T (v .within);
-    span = v .span;
-    bluePeak = greatest-same _ _ _ (λ t. held-same I W P T _ t) (v .bluePeak);
-    redPeak = greatest-same _ _ _ (λ t. held-same I W P T _ t) (v .redPeak);
+    span = v .claimTrue .span;
+    bluePeak = greatest-same _ _ _ (λ t. held-same I W P T _ t) (v .claimTrue .bluePeak);
+    redPeak = greatest-same _ _ _ (λ t. held-same I W P T _ t) (v .claimTrue .redPeak);
   }
 
   former-valid : (claim : Claim) → FormerValid I P claim → Valid I P claim
@@ -122,9 +122,11 @@ module _ (I : Instance) (W : WellFormed I) (P : Schedule) (T : RunsTakeTime I P)
     apart = former-apart (v .apart);
     onTime = v .onTime;
     within = former-within I W P T (v .within);
-    span = v .span;
-    bluePeak = greatest-same _ _ _ (λ t. sym (held-same I W P T _ t)) (v .bluePeak);
-    redPeak = greatest-same _ _ _ (λ t. sym (held-same I W P T _ t)) (v .redPeak);
+    claimTrue = record {
+      span = v .span;
+      bluePeak = greatest-same _ _ _ (λ t. sym (held-same I W P T _ t)) (v .bluePeak);
+      redPeak = greatest-same _ _ _ (λ t. sym (held-same I W P T _ t)) (v .redPeak);
+    };
   }
 
 pub formerHeldLaw : FormerHeldLaw

@@ -3,7 +3,7 @@ use Prim.Native.Nat.{ℕ, zero, suc, _≤_}
 use mathlib.Core.Bool.{Bool, true, false, _&&_}
 use mathlib.Core.List.{List, [], _∷_}
 use mathlib.Core.Logic.{_⊎_, inl, inr}
-use mathlib.Core.Path.{_≡_, ap, _∙_}
+use mathlib.Core.Path.{_≡_, refl, ap, _∙_}
 use native.Mathlib.Omega.{arith}
 use native.Mathlib.Nat.{le-refl}
 use lib.ListN.{length, drop, replicate, length-replicate}
@@ -11,7 +11,7 @@ use lib.Dec.{T, eqb, eqb→eq}
 use Rattle.rules.specs.Limits.{maxText}
 use Rattle.rules.specs.Model.{Instance}
 use Rattle.rules.specs.Validity.{Claim, Verdict, acceptedWith, refusedBy}
-use Rattle.rules.specs.Scheduling.{Planner, memHeft, memMinMin}
+use Rattle.rules.specs.Scheduling.{aware, plain, Planner, heft, minMin, memHeft, memMinMin}
 use Rattle.rules.specs.InstanceText.{accepted, readInstance}
 use Rattle.rules.specs.Calls.{mark, faultLine, plan, Answer, overwritten}
 use Rattle.rules.specs.Promises.{PlannedExactly, Fits}
@@ -68,11 +68,13 @@ rows-from zero rs t = t
 rows-from (suc n) [] t = t
 rows-from (suc n) (r ∷ rs) t = rows-from n rs (rows-hold r rs t)
 
--- a, b: both planners succeed on the course example
+-- a, b: every planner succeeds on the course example
 course-plans : (R : Planner) → plan R sheetA (replicate 200 7) .number ≡ 0
 unfolding table sheetA
-course-plans memHeft = plans-number memHeft 200 sheetA 0 _ _ _ (row-holds _ _ examples)
-course-plans memMinMin = plans-number memMinMin 200 sheetA 0 _ _ _ (row-holds _ _ (rows-from 1 table examples))
+course-plans (heft aware) = plans-number memHeft 200 sheetA 0 _ _ _ (row-holds _ _ examples)
+course-plans (minMin aware) = plans-number memMinMin 200 sheetA 0 _ _ _ (row-holds _ _ (rows-from 1 table examples))
+course-plans (heft plain) = plans-number (heft plain) 200 sheetA 0 _ _ _ (row-holds _ _ (rows-from 15 table examples))
+course-plans (minMin plain) = plans-number (minMin plain) 200 sheetA 0 _ _ _ (row-holds _ _ (rows-from 16 table examples))
 
 -- f, h: the marker refuses one paper by 17, another by 16
 course-17 : (sheet timetable : List ℕ) × (mark sheet timetable .number ≡ 17)
@@ -86,7 +88,7 @@ course-16 = (_, _, marks-number _ _ (refusedBy 16 2) _ (row-holds _ _ (rows-from
 -- ---- a planner that refuses each sheet
 
 pub course-accepted : (I : Instance) × (readInstance sheetA ≡ accepted I)
-course-accepted = let b = readBack memHeft sheetA (replicate 200 7) (course-plans memHeft) in (b .job, b .sheetAccepted)
+course-accepted = let b = readBack memHeft refl sheetA (replicate 200 7) (course-plans memHeft) in (b .job, b .sheetAccepted)
 
 module _ (R : Planner) (I : Instance) (e : readInstance sheetA ≡ accepted I) (buffer : List ℕ) (room : maxText ≤ length buffer) where
   course-fits : Fits R I buffer
@@ -103,7 +105,7 @@ module _ (R : Planner) (I : Instance) (e : readInstance sheetA ≡ accepted I) (
 long-enough : (n : ℕ) → n ≤ length (replicate {A = ℕ} n 0)
 long-enough n = rw (length-replicate {A = ℕ} n 0) (le-refl n)
 
--- so no program that never succeeds meets PlannerExact, for either planner
+-- so no program that never succeeds meets PlannerExact, whichever the planner
 pub never-succeeds : (R : Planner) (answer : List ℕ → List ℕ → Answer) → ((sheet buffer : List ℕ) → answer sheet buffer .number ≡ 0 → ⊥)
     → ((sheet buffer : List ℕ) (I : Instance) → readInstance sheet ≡ accepted I → PlannedExactly R I buffer (answer sheet buffer)) → ⊥
 never-succeeds R answer never exact = on (replicate maxText 0) (long-enough maxText)

@@ -9,7 +9,7 @@ use lib.Dec.{leb, ltb, eqb}
 use borrow.Author.Tests.{leb-true, ltb-true, eqb-true, le-leb, lt-ltb, eq-eqb}
 use Rattle.rules.specs.Count.{sumBelow}
 use Rattle.rules.specs.Model.{blue, red, Colour, Instance, taskCount}
-use Rattle.rules.specs.Scheduling.{Planner, memHeft, memMinMin, Partial, ready, earliestStart, finishOn, weight, Choice, nothing, choose, earlier}
+use Rattle.rules.specs.Scheduling.{Memory, Planner, heft, minMin, Partial, ready, earliestStart, finishOn, weight, Choice, nothing, choose, earlier}
 use Rattle.rules.specs.Scheduling.{tried, bothColours, byWeight, orRest, firstThatFits, earliestBelow, roundOf}
 use Rattle.rules.specs.RoundTrials.{triedBy, TrialLaw}
 use Rattle.rules.proofs.Tests.{split, by-order, is-false, and-true, and-no, or-yes}
@@ -25,20 +25,20 @@ earlier-task I i (some t) (some u) j c s e = split (leb (finishOn I i blue t) (f
     (λ q. let f : choose i blue t ≡ choose j c s = rw q at e in cc)
     (λ q. let f : choose i red u ≡ choose j c s = rw q at e in cc)
 
-both-task : (I : Instance) (Q : Partial) (i j : ℕ) (c : Colour) (s : ℕ) → bothColours I Q i ≡ choose j c s → j ≡ i
+both-task : (m : Memory) (I : Instance) (Q : Partial) (i j : ℕ) (c : Colour) (s : ℕ) → bothColours m I Q i ≡ choose j c s → j ≡ i
 unfolding bothColours
-both-task I Q i j c s e = earlier-task I i (earliestStart I Q i blue) (earliestStart I Q i red) j c s e
+both-task m I Q i j c s e = earlier-task I i (earliestStart m I Q i blue) (earliestStart m I Q i red) j c s e
 
--- ---- how far down its list MemHEFT goes
+-- ---- how far down its list HEFT goes
 
-module _ (I : Instance) where
+module _ (m : Memory) (I : Instance) where
   -- a choice is of a task of the list
   abbrev Within : List ℕ → Choice → Type 0
   Within is nothing = Unit {0}
   Within is (choose k c s) = List·Memᴰ k is
 
   -- a task ahead of the choice is tried, the choice too, and nothing behind it
-  down-to : (i k : ℕ) (c : Colour) (s : ℕ) → Ahead I i k → triedBy memHeft I (choose k c s) i ≡ true
+  down-to : (i k : ℕ) (c : Colour) (s : ℕ) → Ahead I i k → triedBy (heft m) I (choose k c s) i ≡ true
   down-to i k c s a =
       by-order (weight I k) (weight I i)
       (λ l. rw (lt-ltb _ _ l))
@@ -46,12 +46,12 @@ module _ (I : Instance) where
       let e : weight I k ≡ weight I i = omega (arith, a .0) in
       rw (eq-eqb (weight I k) (weight I i) e, le-leb i k (a .1 e)) (or-yes (ltb (weight I k) (weight I i))))
 
-  ahead-tried : (i : ℕ) (is : List ℕ) (x : Choice) → ((j : ℕ) → List·Memᴰ j is → Ahead I i j) → Within is x → triedBy memHeft I x i ≡ true
-  ahead-tried i is nothing s m = refl
-  ahead-tried i is (choose k c t) s m = down-to i k c t (s k m)
+  ahead-tried : (i : ℕ) (is : List ℕ) (x : Choice) → ((j : ℕ) → List·Memᴰ j is → Ahead I i j) → Within is x → triedBy (heft m) I x i ≡ true
+  ahead-tried i is nothing s h = refl
+  ahead-tried i is (choose k c t) s h = down-to i k c t (s k h)
 
-  not-behind : (i k : ℕ) (c : Colour) (s : ℕ) → Ahead I i k → (k ≡ i → ⊥) → triedBy memHeft I (choose i c s) k ≡ false
-  not-behind i k c s a d = is-false (triedBy memHeft I (choose i c s) k) (λ e. split (ltb (weight I i) (weight I k))
+  not-behind : (i k : ℕ) (c : Colour) (s : ℕ) → Ahead I i k → (k ≡ i → ⊥) → triedBy (heft m) I (choose i c s) k ≡ false
+  not-behind i k c s a d = is-false (triedBy (heft m) I (choose i c s) k) (λ e. split (ltb (weight I i) (weight I k))
       (λ l. omega (arith, a .0, ltb-true (weight I i) (weight I k) l))
       (λ l.
       let f : eqb (weight I i) (weight I k) && leb k i ≡ true = rw l at e in
@@ -63,67 +63,67 @@ over-zero : (is : List ℕ) (f : ℕ → ℕ) → ((k : ℕ) → List·Memᴰ k 
 over-zero [] f h = refl
 over-zero (i ∷ is) f h = omega (arith, h i (List·Memᴰ·head refl), over-zero is f (λ k m. h k (List·Memᴰ·tail m)))
 
-module _ (I : Instance) (Q : Partial) where
+module _ (m : Memory) (I : Instance) (Q : Partial) where
   -- two trials of a task that is tried
   abbrev counted : Planner → Choice → ℕ → ℕ
   counted R x j = cond (ready I (Q .schedule) j && triedBy R I x j) 2 0
 
-  rest-within : (i : ℕ) (is : List ℕ) (x : Choice) → Within I is x → Within I (i ∷ is) x
-  rest-within i is nothing m = tt
-  rest-within i is (choose k c s) m = List·Memᴰ·tail m
+  rest-within : (i : ℕ) (is : List ℕ) (x : Choice) → Within m I is x → Within m I (i ∷ is) x
+  rest-within i is nothing h = tt
+  rest-within i is (choose k c s) h = List·Memᴰ·tail h
 
-  first-tries : (i : ℕ) (is : List ℕ) → ready I (Q .schedule) i ≡ true → firstThatFits I Q (i ∷ is) ≡ orRest (bothColours I Q i) (firstThatFits I Q is)
+  first-tries : (i : ℕ) (is : List ℕ) → ready I (Q .schedule) i ≡ true → firstThatFits m I Q (i ∷ is) ≡ orRest (bothColours m I Q i) (firstThatFits m I Q is)
   unfolding firstThatFits
   first-tries i is r = rw r
 
-  first-skips : (i : ℕ) (is : List ℕ) → ready I (Q .schedule) i ≡ false → firstThatFits I Q (i ∷ is) ≡ firstThatFits I Q is
+  first-skips : (i : ℕ) (is : List ℕ) → ready I (Q .schedule) i ≡ false → firstThatFits m I Q (i ∷ is) ≡ firstThatFits m I Q is
   unfolding firstThatFits
   first-skips i is r = rw r
 
-  first-none : firstThatFits I Q [] ≡ record { choice = nothing; trials = 0 }
+  first-none : firstThatFits m I Q [] ≡ record { choice = nothing; trials = 0 }
   unfolding firstThatFits
   first-none = refl
 
-  first-within : (is : List ℕ) → Within I is (firstThatFits I Q is .choice)
+  first-within : (is : List ℕ) → Within m I is (firstThatFits m I Q is .choice)
   first-within [] = rw first-none tt
   first-within (i ∷ is) = split (ready I (Q .schedule) i)
-      (λ r. rw (first-tries i is r) (on (bothColours I Q i) refl (first-within is)))
-      (λ r. rw (first-skips i is r) (rest-within i is (firstThatFits I Q is .choice) (first-within is)))
+      (λ r. rw (first-tries i is r) (on (bothColours m I Q i) refl (first-within is)))
+      (λ r. rw (first-skips i is r) (rest-within i is (firstThatFits m I Q is .choice) (first-within is)))
     where
-      on : (x : Choice) → bothColours I Q i ≡ x → Within I is (firstThatFits I Q is .choice) → Within I (i ∷ is) (orRest x (firstThatFits I Q is) .choice)
-      on nothing e m = rest-within i is (firstThatFits I Q is .choice) m
-      on (choose j c s) e m = List·Memᴰ·head (both-task I Q i j c s e)
+      on : (x : Choice) → bothColours m I Q i ≡ x → Within m I is (firstThatFits m I Q is .choice) → Within m I (i ∷ is) (orRest x (firstThatFits m I Q is) .choice)
+      on nothing e h = rest-within i is (firstThatFits m I Q is .choice) h
+      on (choose j c s) e h = List·Memᴰ·head (both-task m I Q i j c s e)
 
-  counts-none : (x : Choice) (k : ℕ) → triedBy memHeft I x k ≡ false → counted memHeft x k ≡ 0
+  counts-none : (x : Choice) (k : ℕ) → triedBy (heft m) I x k ≡ false → counted (heft m) x k ≡ 0
   counts-none x k e = rw (e, and-no (ready I (Q .schedule) k))
 
-  first-counted : (is : List ℕ) → Sorted I is → Once is → firstThatFits I Q is .trials ≡ sumOver is (counted memHeft (firstThatFits I Q is .choice))
+  first-counted : (is : List ℕ) → Sorted I is → Once is → firstThatFits m I Q is .trials ≡ sumOver is (counted (heft m) (firstThatFits m I Q is .choice))
   first-counted [] s o = rw first-none
   first-counted (i ∷ is) s o = split (ready I (Q .schedule) i)
-      (λ r. rw (first-tries i is r) (on r (bothColours I Q i) refl (first-counted is (s .1) (o .1))))
+      (λ r. rw (first-tries i is r) (on r (bothColours m I Q i) refl (first-counted is (s .1) (o .1))))
       (λ r. rw (first-skips i is r, r) (omega (arith, first-counted is (s .1) (o .1))))
     where
-      on : ready I (Q .schedule) i ≡ true → (x : Choice) → bothColours I Q i ≡ x
-          → firstThatFits I Q is .trials ≡ sumOver is (counted memHeft (firstThatFits I Q is .choice))
-          → orRest x (firstThatFits I Q is) .trials ≡ sumOver (i ∷ is) (counted memHeft (orRest x (firstThatFits I Q is) .choice))
-      on r nothing e h = rw (r, ahead-tried I i is (firstThatFits I Q is .choice) (s .0) (first-within is)) (ap (λ n. 2 + n) h)
+      on : ready I (Q .schedule) i ≡ true → (x : Choice) → bothColours m I Q i ≡ x
+          → firstThatFits m I Q is .trials ≡ sumOver is (counted (heft m) (firstThatFits m I Q is .choice))
+          → orRest x (firstThatFits m I Q is) .trials ≡ sumOver (i ∷ is) (counted (heft m) (orRest x (firstThatFits m I Q is) .choice))
+      on r nothing e h = rw (r, ahead-tried m I i is (firstThatFits m I Q is .choice) (s .0) (first-within is)) (ap (λ n. 2 + n) h)
       on r (choose j c t) e h =
-          let q = both-task I Q i j c t e in
-          let own : triedBy memHeft I (choose j c t) i ≡ true = down-to I i j c t (rw q (omega arith)) in
-          let behind : (k : ℕ) → List·Memᴰ k is → counted memHeft (choose j c t) k ≡ 0 = λ k m.
-          counts-none (choose j c t) k (not-behind I j k c t (rw q (s .0 k m)) (λ p. o .0 (rw (p, q) at m))) in
-          rw (r, own, over-zero is (counted memHeft (choose j c t)) behind)
+          let q = both-task m I Q i j c t e in
+          let own : triedBy (heft m) I (choose j c t) i ≡ true = down-to m I i j c t (rw q (omega arith)) in
+          let behind : (k : ℕ) → List·Memᴰ k is → counted (heft m) (choose j c t) k ≡ 0 = λ k h.
+          counts-none (choose j c t) k (not-behind m I j k c t (rw q (s .0 k h)) (λ p. o .0 (rw (p, q) at h))) in
+          rw (r, own, over-zero is (counted (heft m) (choose j c t)) behind)
 
-  earliest-counted : (n : ℕ) (x : Choice) → earliestBelow I Q n .trials ≡ sumBelow n (counted memMinMin x)
+  earliest-counted : (n : ℕ) (x : Choice) → earliestBelow m I Q n .trials ≡ sumBelow n (counted (minMin m) x)
   unfolding earliestBelow sumBelow
   earliest-counted zero x = refl
   earliest-counted (suc n) x = split (ready I (Q .schedule) n)
-      (λ r. rw r (ap (λ m. m + 2) (earliest-counted n x)))
+      (λ r. rw r (ap (λ k. k + 2) (earliest-counted n x)))
       (λ r. rw r (omega (arith, earliest-counted n x)))
 
 pub trialLaw : TrialLaw
 unfolding roundOf
-trialLaw memHeft I Q =
-    first-counted I Q (byWeight I (taskCount I)) (byWeight-sorted I (taskCount I)) (byWeight-once I (taskCount I))
-    ∙ byWeight-sum I (counted I Q memHeft (roundOf memHeft I Q .choice)) (taskCount I)
-trialLaw memMinMin I Q = earliest-counted I Q (taskCount I) (roundOf memMinMin I Q .choice)
+trialLaw (heft m) I Q =
+    first-counted m I Q (byWeight I (taskCount I)) (byWeight-sorted I (taskCount I)) (byWeight-once I (taskCount I))
+    ∙ byWeight-sum I (counted m I Q (heft m) (roundOf (heft m) I Q .choice)) (taskCount I)
+trialLaw (minMin m) I Q = earliest-counted m I Q (taskCount I) (roundOf (minMin m) I Q .choice)

@@ -3,7 +3,7 @@ use Prim.Native.Nat.{ℕ, _≤_, _<_}
 use mathlib.Core.Path.{_≡_, _∙_}
 use borrow.Author.Tests.{le-leb, lt-leb}
 use Rattle.rules.specs.Model.{blue, red, Instance}
-use Rattle.rules.specs.Scheduling.{Partial, nothing, choose, earliestStart, finishOn, tried, earlier, bothColours}
+use Rattle.rules.specs.Scheduling.{Memory, Partial, nothing, choose, earliestStart, finishOn, tried, earlier, bothColours}
 use Rattle.model.specs.declared.layout.Shape.{Shape}
 use Rattle.model.specs.declared.colour.Colour.{Colour}
 use Rattle.model.specs.Colours.{asColour}
@@ -40,9 +40,9 @@ module _ (I : Instance) (a b : Choice) where
       pub earlier-second : n < m → choose j (asColour y) t ≡ earlier I (asChoice a) (asChoice b)
       earlier-second l = rw (e, g, ← p, ← q, lt-leb m n l)
 
-pub both-at : (I : Instance) (Q : Partial) (i : ℕ) (f g : Free) (a b r : Choice)
-    → asOption f ≡ earliestStart I Q i blue → asOption g ≡ earliestStart I Q i red
+pub both-at : (m : Memory) (I : Instance) (Q : Partial) (i : ℕ) (f g : Free) (a b r : Choice)
+    → asOption f ≡ earliestStart m I Q i blue → asOption g ≡ earliestStart m I Q i red
     → asChoice a ≡ tried i blue (asOption f) → asChoice b ≡ tried i red (asOption g)
-    → asChoice r ≡ earlier I (asChoice a) (asChoice b) → asChoice r ≡ bothColours I Q i
+    → asChoice r ≡ earlier I (asChoice a) (asChoice b) → asChoice r ≡ bothColours m I Q i
 unfolding bothColours
-both-at I Q i f g a b r ef eg ea eb er = er ∙ rw (ea, eb, ef, eg)
+both-at m I Q i f g a b r ef eg ea eb er = er ∙ rw (ea, eb, ef, eg)

@@ -5,12 +5,13 @@ ghost use Rattle.rules.specs.Scheduling.{finishOn, tried as rules-tried, earlie
 ghost use Rattle.model.specs.declared.layout.Shape.{Shape};
 ghost use Rattle.model.specs.Colours.{asColour};
 ghost use Rattle.model.specs.Layout.{instanceOf, partialOf, JobInBounds, InBounds, LastBounds, lastStart, latestFinish};
-ghost use Rattle.starts.specs.FreeMemory.{asOption, tickOf};
+ghost use Rattle.starts.specs.FreeMemory.{asMemory, asOption, tickOf};
 ghost use Rattle.selection.specs.Choices.{asChoice, ChoiceBounds};
 use model::colour::Colour;
 use model::layout;
 use model::layout::Shape;
 use starts::memory::Free;
+use starts::memory::Memory;
 use starts::start::earliest_start;
 
 // What is to be placed: a task on a colour at a start, or nothing that fits.
@@ -87,6 +88,7 @@ pub fn earlier(shape: Shape, job: &[u64; layout::JOB], a: Choice, b: Choice) -> 
 
 // The task on both colours: the earlier finish, ties to blue.
 pub fn both_colours<'a>(
+    memory: Memory,
     shape: Shape,
     job: &'a [u64; layout::JOB],
     schedule: &'a [u64; layout::SCHEDULE],
@@ -96,11 +98,12 @@ pub fn both_colours<'a>(
     requires { ⌜ InBounds shape (now job) (now schedule) ⌝ }
     requires { ⌜ LastBounds shape (now last) ⌝ }
     requires { ⌜ task < shape .tasks ⌝ }
-    ensures { λ r. ⌜ asChoice r ≡ bothColours (instanceOf shape (now (job .entry))) (partialOf shape (now (schedule .entry)) (now (last .entry))) task ⌝ }
+    ensures { λ r. ⌜ asChoice r
+        ≡ bothColours (asMemory memory) (instanceOf shape (now (job .entry))) (partialOf shape (now (schedule .entry)) (now (last .entry))) task ⌝ }
     ensures { λ r. ⌜ ChoiceBounds shape r ⌝ }
 {
-    let on_blue = earliest_start(shape, job, schedule, last, task, Colour::Blue);
-    let on_red = earliest_start(shape, job, schedule, last, task, Colour::Red);
+    let on_blue = earliest_start(memory, shape, job, schedule, last, task, Colour::Blue);
+    let on_red = earliest_start(memory, shape, job, schedule, last, task, Colour::Red);
     let first = tried(task, Colour::Blue, on_blue);
     let second = tried(task, Colour::Red, on_red);
     earlier(shape, job, first, second)

@@ -1,14 +1,16 @@
--- Start 1 over the array of last finishes, and the four starts together.
+-- Start 1 over the array of last finishes, starts 3 and 4, and all of them together.
 use Prim.Native.Nat.{ℕ, suc, _+_, _<_, _≤_, min, max, pred}
 use mathlib.Core.List.{List}
 use mathlib.Core.Option.{none, some}
-use mathlib.Core.Path.{_≡_, refl, _∙_, ap}
+use mathlib.Core.Path.{_≡_, refl, sym, _∙_, ap}
 use native.Mathlib.Omega.{arith}
 use native.Mathlib.Nat.{add-zero}
 use lib.ListN.{getD}
 use Rattle.rules.specs.Count.{minUpTo}
 use Rattle.rules.specs.Model.{Instance, Schedule}
-use Rattle.rules.specs.Scheduling.{Partial, processorStart, freeFrom, latest, delayed, earliestStart}
+use Rattle.rules.specs.Model as Model
+use Rattle.rules.specs.Scheduling.{Partial, processorStart, freeFrom, latest, delayed, memoryStart, earliestStart}
+use Rattle.rules.specs.Scheduling as Rules
 use Rattle.rules.proofs.CountLaws.{min-cong}
 use Rattle.model.specs.declared.layout.Shape.{Shape}
 use Rattle.model.specs.declared.colour.Colour.{Colour}
@@ -16,27 +18,41 @@ use Rattle.model.specs.declared.colour.Colour.the-variants.{Blue, Red}
 use Rattle.model.specs.Colours.{asColour, byColour}
 use Rattle.model.specs.Layout.{Job, Entries, instanceFrom, scheduleFrom, partialFrom, countIn, Processors}
 use Rattle.model.proofs.LayoutLaws.{last-finish-at}
+use Rattle.starts.specs.declared.memory.Memory.{Memory}
+use Rattle.starts.specs.declared.memory.Memory.the-variants.{Aware, Plain}
 use Rattle.starts.specs.declared.memory.Free.{Free}
 use Rattle.starts.specs.declared.memory.Free.the-variants.{Nowhere, From}
 use Rattle.starts.specs.declared.demand.Demand.{Demand}
 use Rattle.starts.specs.Demands.{DemandOf}
-use Rattle.starts.specs.FreeMemory.{asOption, tickOf}
+use Rattle.starts.specs.FreeMemory.{asMemory, asOption, tickOf}
 
--- ---- the greatest of the four
+-- ---- starts 3 and 4
 
 pub tick-of : {a : Free} {x : ℕ} → a ≡ From x → tickOf a ≡ x
 tick-of e = rw e
 
-module _ (p : ℕ) (a b : Free) (d : ℕ) where
-  pub latest-first : a ≡ Nowhere → none ≡ latest (some p) (latest (asOption a) (delayed (asOption b) d))
+module _ (a b : Free) (d : ℕ) where
+  pub latest-first : a ≡ Nowhere → none ≡ latest (asOption a) (delayed (asOption b) d)
   latest-first e = rw e
 
-  pub latest-second : {x : ℕ} → a ≡ From x → b ≡ Nowhere → none ≡ latest (some p) (latest (asOption a) (delayed (asOption b) d))
+  pub latest-second : {x : ℕ} → a ≡ From x → b ≡ Nowhere → none ≡ latest (asOption a) (delayed (asOption b) d)
   latest-second e g = rw (e, g)
 
-  pub latest-both : {x y r : ℕ} → a ≡ From x → b ≡ From y → r ≡ max p (max x (y + d))
-      → some r ≡ latest (some p) (latest (asOption a) (delayed (asOption b) d))
+  pub latest-both : {x y r : ℕ} → a ≡ From x → b ≡ From y → r ≡ max x (y + d) → some r ≡ latest (asOption a) (delayed (asOption b) d)
   latest-both e g q = rw (e, g, q)
+
+module _ (I : Instance) (P : Schedule) (c : Model.Colour) (m : Memory) (i : ℕ) {d : Demand} (e : DemandOf I P i c d) where
+  -- where they are asked for
+  pub memory-aware : m ≡ Aware → (x y z : Free) {need : ℕ} → need ≡ d .incoming + d .outputs
+      → asOption x ≡ freeFrom I P c need → asOption y ≡ freeFrom I P c (d .incoming)
+      → asOption z ≡ latest (asOption x) (delayed (asOption y) (d .longest)) → asOption z ≡ memoryStart (asMemory m) I P i c
+  unfolding memoryStart
+  memory-aware w x y z en ex ey ez = ez ∙ rw (w, ex, ey, en, e .incoming, e .outputs, e .longest)
+
+  -- and where they are left out
+  pub memory-plain : m ≡ Plain → some 0 ≡ memoryStart (asMemory m) I P i c
+  unfolding memoryStart
+  memory-plain w = rw w
 
 -- ---- start 1
 
@@ -81,12 +97,14 @@ module _ (b : Shape) (J : Job) (L : Entries) (last : List ℕ) where
         → i ≡ n → minUpTo (pred i) (at last first) ≡ processorStart I Q (asColour c)
     least-total c x y z = rw (x, z, y, least-finish c)
 
-  -- ---- the four starts
+  -- ---- the starts together
 
-  pub earliest-at : (i : ℕ) (c : Colour) {d : Demand} (x y z : Free) {one r : ℕ}
-      → DemandOf I P i (asColour c) d → one ≡ processorStart I Q (asColour c) → r ≡ max one (d .arrival)
-      → asOption x ≡ freeFrom I P (asColour c) (d .incoming + d .outputs) → asOption y ≡ freeFrom I P (asColour c) (d .incoming)
-      → asOption z ≡ latest (some r) (latest (asOption x) (delayed (asOption y) (d .longest)))
-      → asOption z ≡ earliestStart I Q i (asColour c)
-  unfolding earliestStart
-  earliest-at i c x y z e e1 er ex ey ez = ez ∙ rw (ex, ey, er, e1, e .arrival, e .incoming, e .outputs, e .longest)
+  module _ (m : Rules.Memory) (i : ℕ) (c : Colour) {d : Demand} {one r : ℕ} (e : DemandOf I P i (asColour c) d)
+      (e1 : one ≡ processorStart I Q (asColour c)) (er : r ≡ max one (d .arrival)) (x : Free) (ex : asOption x ≡ memoryStart m I P i (asColour c)) where
+    pub earliest-none : x ≡ Nowhere → none ≡ earliestStart m I Q i (asColour c)
+    unfolding earliestStart
+    earliest-none n = let q : memoryStart m I P i (asColour c) ≡ none = sym ex ∙ rw n in rw q
+
+    pub earliest-at : {s z : ℕ} → x ≡ From s → z ≡ max r s → some z ≡ earliestStart m I Q i (asColour c)
+    unfolding earliestStart
+    earliest-at {s} n ez = let q : memoryStart m I P i (asColour c) ≡ some s = sym ex ∙ rw n in rw (q, ez, er, e1, e .arrival)

@@ -1,13 +1,20 @@
--- The code's answer to 'from when on', as the rules have it, and the ends of holds that the code looks at.
+-- The code's mark for memory and its answer to 'from when on', as the rules have them, and the ends of holds that the code looks at.
 use Prim.Native.Nat.{ℕ, _+_, pred}
 use mathlib.Core.Bool.{cond}
 use mathlib.Core.Option.{Option, none, some}
 use Rattle.rules.specs.Model.{Colour, Instance, Schedule}
 use Rattle.rules.specs.Residency.{Hold, never, during, since, holdOf}
 use Rattle.rules.specs.Scheduling.{fits}
+use Rattle.rules.specs.Scheduling as Rules
 use Rattle.model.specs.Layout.{mostHeld}
+use Rattle.starts.specs.declared.memory.Memory.{Memory}
+use Rattle.starts.specs.declared.memory.Memory.the-variants.{Aware, Plain}
 use Rattle.starts.specs.declared.memory.Free.{Free}
 use Rattle.starts.specs.declared.memory.Free.the-variants.{Nowhere, From}
+
+abbrev pub asMemory : Memory → Rules.Memory
+asMemory Aware = Rules.aware
+asMemory Plain = Rules.plain
 
 abbrev pub asOption : Free → Option ℕ
 asOption Nowhere = none

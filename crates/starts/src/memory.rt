@@ -1,4 +1,4 @@
-// From when on a memory has an amount free: starts 3 and 4.
+// Whether a planner looks at memory; and from when on a memory has an amount free, which starts 3 and 4 ask.
 ghost use mathlib.Core.Path.{_≡_};
 ghost use Prim.Native.Nat.{_<_, _≤_};
 ghost use Rattle.rules.specs.Count.{maxBelow};
@@ -16,6 +16,12 @@ use model::residency::Hold;
 use model::residency::held_at;
 use model::residency::hold_of;
 use model::residency::horizon_of;
+
+// Memory aware, or plain: with starts 3 and 4 left out.
+pub enum Memory {
+    Aware,
+    Plain,
+}
 
 // A tick from which on something is so, if there is one.
 pub enum Free {

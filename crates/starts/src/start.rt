@@ -1,15 +1,17 @@
-// The earliest start of a task on a colour: the greatest of the starts 1 to 4.
+// The earliest start of a task on a colour: the greatest of the starts 1 to 4; of 1 and 2, if the planner is plain.
 ghost use mathlib.Core.Path.{_≡_};
-ghost use mathlib.Core.Option.{some};
-ghost use Prim.Native.Nat.{_+_, _≤_};
-ghost use Rattle.rules.specs.Limits.{moveTimes};
-ghost use Rattle.rules.specs.Scheduling.{processorStart, latest as rules-latest, delayed, earliestStart};
+ghost use Prim.Native.Nat.{ℕ, _≤_};
+ghost use Rattle.rules.specs.Limits.{maxFiles, moveTimes};
+ghost use Rattle.rules.specs.Scheduling.{processorStart, latest as rules-latest, delayed, memoryStart, earliestStart};
 ghost use Rattle.model.specs.Colours.{asColour};
-ghost use Rattle.model.specs.Layout.{Job, Entries, instanceFrom, partialFrom, instanceOf, partialOf};
+ghost use Rattle.model.specs.Layout.{Job, Entries, instanceFrom, partialFrom, instanceOf, scheduleOf, partialOf};
 ghost use Rattle.model.specs.Layout.{Processors, InBounds, LastBounds, lastTick, lastStart};
-ghost use Rattle.starts.specs.FreeMemory.{asOption, tickOf};
+ghost use Rattle.starts.specs.Demands.{DemandOf, DemandBounds};
+ghost use Rattle.starts.specs.FreeMemory.{asMemory, asOption, tickOf};
+use super::demand::Demand;
 use super::demand::demand_of;
 use super::memory::Free;
+use super::memory::Memory;
 use super::memory::free_from;
 use model::choice::greater;
 use model::choice::lesser;
@@ -39,10 +41,10 @@ pub fn processor_start(shape: Shape, last: &[u64; layout::LAST], colour: Colour)
     least
 }
 
-// The greatest of the starts: 1 and 2 (`ready`), 3 (`running`), and 4, which is `delay` after `moving`.
-fn latest(ready: u64, running: Free, moving: Free, delay: u64) -> Free
-    requires { ⌜ (ready ≤ lastStart) × (tickOf running ≤ lastTick) × (tickOf moving ≤ lastTick) × (delay ≤ moveTimes .most) ⌝ }
-    ensures { λ r. ⌜ asOption r ≡ rules-latest (some ready) (rules-latest (asOption running) (delayed (asOption moving) delay)) ⌝ }
+// The greater of start 3 (`running`) and start 4, which is `delay` after `moving`.
+fn latest(running: Free, moving: Free, delay: u64) -> Free
+    requires { ⌜ (tickOf running ≤ lastTick) × (tickOf moving ≤ lastTick) × (delay ≤ moveTimes .most) ⌝ }
+    ensures { λ r. ⌜ asOption r ≡ rules-latest (asOption running) (delayed (asOption moving) delay) ⌝ }
     ensures { λ r. ⌜ tickOf r ≤ lastStart ⌝ }
 {
     let Free::From(s) = running else {
@@ -51,11 +53,38 @@ fn latest(ready: u64, running: Free, moving: Free, delay: u64) -> Free
     let Free::From(t) = moving else {
         return Free::Nowhere;
     };
-    Free::From(greater(ready, greater(s, t + delay)))
+    Free::From(greater(s, t + delay))
+}
+
+// Starts 3 and 4 of a task with this demand: the greater of the two, if the planner looks at memory; else 0. Nothing else asks for them.
+fn memory_start<'a>(
+    memory: Memory,
+    shape: Shape,
+    job: &'a [u64; layout::JOB],
+    schedule: &'a [u64; layout::SCHEDULE],
+    colour: Colour,
+    demand: Demand,
+) -> Free
+    requires { ⌜ InBounds shape (now job) (now schedule) ⌝ }
+    requires { ⌜ DemandBounds maxFiles demand ⌝ }
+    ensures { λ r. ⌜ ((i : ℕ) → DemandOf (instanceOf shape (now (job .entry))) (scheduleOf shape (now (schedule .entry))) i (asColour colour) demand →
+        asOption r ≡ memoryStart (asMemory memory) (instanceOf shape (now (job .entry))) (scheduleOf shape (now (schedule .entry))) i (asColour colour)) ⌝ }
+    ensures { λ r. ⌜ tickOf r ≤ lastStart ⌝ }
+{
+    match memory {
+        Memory::Plain => Free::From(0),
+        Memory::Aware => {
+            let need = demand.incoming + demand.outputs;
+            let running = free_from(shape, job, schedule, colour, need);
+            let moving = free_from(shape, job, schedule, colour, demand.incoming);
+            latest(running, moving, demand.longest)
+        }
+    }
 }
 
 // The earliest start of the task on the colour, if the colour fits.
 pub fn earliest_start<'a>(
+    memory: Memory,
     shape: Shape,
     job: &'a [u64; layout::JOB],
     schedule: &'a [u64; layout::SCHEDULE],
@@ -65,20 +94,16 @@ pub fn earliest_start<'a>(
 ) -> Free
     requires { ⌜ InBounds shape (now job) (now schedule) ⌝ }
     requires { ⌜ LastBounds shape (now last) ⌝ }
-    ensures { λ r. ⌜ asOption r
-        ≡ earliestStart (instanceOf shape (now (job .entry))) (partialOf shape (now (schedule .entry)) (now (last .entry))) task (asColour colour) ⌝ }
+    ensures { λ r. ⌜ asOption r ≡ earliestStart (asMemory memory)
+        (instanceOf shape (now (job .entry))) (partialOf shape (now (schedule .entry)) (now (last .entry))) task (asColour colour) ⌝ }
     ensures { λ r. ⌜ tickOf r ≤ lastStart ⌝ }
 {
     let demand = demand_of(shape, job, schedule, task, colour);
     let free = processor_start(shape, last, colour);
     let ready = greater(free, demand.arrival);
-    let running = free_from(
-        shape,
-        job,
-        schedule,
-        colour,
-        demand.incoming + demand.outputs,
-    );
-    let moving = free_from(shape, job, schedule, colour, demand.incoming);
-    latest(ready, running, moving, demand.longest)
+    let room = memory_start(memory, shape, job, schedule, colour, demand);
+    let Free::From(s) = room else {
+        return Free::Nowhere;
+    };
+    Free::From(greater(ready, s))
 }

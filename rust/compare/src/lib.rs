@@ -1,7 +1,10 @@
-//! An independent implementation of document 01 with Orders 1 to 3, for tests, and texts by chance to compare it on.
+//! An independent implementation of document 01 with Orders 1 to 4, for tests, and texts by chance to compare it on.
 
 pub mod colours;
 pub mod generate;
+pub mod library;
+pub mod plain;
+pub mod plans;
 pub mod reference;
 pub mod relays;
 pub mod simulation;

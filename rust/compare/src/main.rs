@@ -1,16 +1,17 @@
-//! Compares the proved library with an implementation of its own of document 01 with Orders 1 to 3, on sound and damaged texts from
+//! Compares the proved library with an implementation of its own of document 01 with Orders 1 to 4, on sound and damaged texts from
 //! a fixed seed, and short timetables also with what the memories hold at each tick. All that is marked is simulated too. Prints how often
-//! each answer was reached, what was answered to timetables with relays, how often each of the four cases of maker and reader was met, and
-//! what the simulator answered. Ends with an error at the first difference, where an answer or a case was never reached, or where relays
-//! were marked as the rules do not allow.
+//! each answer was reached, what was answered to timetables with relays, how often each of the four cases of maker and reader was met,
+//! what the simulator answered, and what the plain planners did beside the memory-aware ones. Ends with an error at the first difference,
+//! where an answer or a case was never reached, or where relays were marked as the rules do not allow.
 
-use compare::colours;
 use compare::generate::{self, Random};
-use compare::reference::{self, Sheet, Table};
+use compare::library::{self, Answered};
+use compare::reference::{self, Heuristic, Memory, Planned, Planner, Sheet, Table, PLANNERS};
 use compare::relays::{self, has_relays};
-use compare::stepping;
-use frames::{Planner, Verdict};
+use compare::{colours, plain, stepping};
 use std::collections::{BTreeMap, BTreeSet};
+use Heuristic::{Heft, MinMin};
+use Memory::{Aware, Plain};
 
 /// How often each number was answered, and at which places.
 type Seen = BTreeMap<u64, (u64, BTreeSet<u64>)>;
@@ -18,10 +19,12 @@ type Seen = BTreeMap<u64, (u64, BTreeSet<u64>)>;
 #[derive(Default)]
 struct Tally {
     marks: Seen,
-    plans: Seen,
+    /// of the memory-aware planners, and of the plain ones
+    plans: [Seen; 2],
     relays: relays::Counts,
     colours: colours::Counts,
     simulator: stepping::Counts,
+    plain: plain::Counts,
     cases: u64,
 }
 
@@ -30,28 +33,28 @@ fn show(text: &[u8]) -> String {
 }
 
 /// Ends the run if there is a difference, with the two texts.
-fn same(found: Result<(), String>, sheet: &[u8], paper: &[u8]) {
-    if let Err(difference) = found {
+fn same<T>(found: Result<T, String>, sheet: &[u8], paper: &[u8]) -> T {
+    found.unwrap_or_else(|difference| {
         panic!(
             "{difference}\nsheet:\n{}\npaper:\n{}",
             show(sheet),
             show(paper)
-        );
-    }
+        )
+    })
+}
+
+/// Counts an answer.
+fn count(seen: &mut Seen, number: u64, place: u64) {
+    let seen = seen.entry(number).or_default();
+    seen.0 += 1;
+    seen.1.insert(place);
 }
 
 impl Tally {
-    fn mark(&mut self, sheet: &[u8], paper: &[u8]) {
+    /// The marker on two texts; its answer.
+    fn mark(&mut self, sheet: &[u8], paper: &[u8]) -> [u64; 5] {
         self.cases += 1;
-        let want = reference::mark(sheet, paper);
-        let got = match frames::mark(sheet, paper) {
-            Verdict::Accepted {
-                span,
-                blue_peak,
-                red_peak,
-            } => [0, 0, span, blue_peak, red_peak],
-            Verdict::Refused(refusal) => [refusal.numbers().0, refusal.numbers().1, 0, 0, 0],
-        };
+        let (got, want) = (library::mark(sheet, paper), reference::mark(sheet, paper));
         if got != want || frames::fault_line(sheet, paper) != reference::fault_line(sheet, paper) {
             panic!(
                 "mark differs: {got:?}, wanted {want:?}\nsheet:\n{}\npaper:\n{}",
@@ -59,70 +62,58 @@ impl Tally {
                 show(paper)
             );
         }
-        let seen = self.marks.entry(got[0]).or_default();
-        seen.0 += 1;
-        seen.1.insert(got[1]);
+        count(&mut self.marks, got[0], got[1]);
         if matches!(got[0], 0 | 15..=18) {
             self.relays.marked(sheet, paper, got[0], got[1]);
             same(self.colours.marked(sheet, paper, got), sheet, paper);
         }
         same(self.simulator.marked(sheet, paper, got), sheet, paper);
+        got
     }
 
-    /// A planner with a buffer of a length, filled with a pattern; what it wrote, if it succeeded.
-    fn plan(
-        &mut self,
-        heft: bool,
-        sheet: &[u8],
-        want: &reference::Planned,
-        room: usize,
-    ) -> Option<Vec<u8>> {
+    /// A planner with a buffer of a length; its answer, and the buffer.
+    fn plan(&mut self, planner: Planner, sheet: &[u8], want: &Planned, room: usize) -> Answered {
         self.cases += 1;
-        let planner = if heft {
-            Planner::MemHeft
-        } else {
-            Planner::MemMinMin
-        };
-        let pattern: Vec<u8> = (0..room).map(|i| (i * 7 + 13) as u8).collect();
-        let mut out = pattern.clone();
-        let got = frames::plan_into(planner, sheet, &mut out);
-        let short = want.number == 0 && room < want.text.len();
-        let number = if short { 31 } else { want.number };
-        let mut bytes = pattern;
-        if number == 0 {
-            bytes[..want.text.len()].copy_from_slice(&want.text);
-        }
-        if (got.number, got.place, got.trials) != (number, want.place, want.trials) || out != bytes
-        {
-            panic!(
-                "{planner:?} differs with {room} bytes: {got:?}, wanted {number} {} {}\nsheet:\n{}\nwrote:\n{}\nwanted:\n{}",
-                want.place,
-                want.trials,
-                show(sheet),
-                show(&out),
-                show(&want.text)
-            );
-        }
-        let seen = self.plans.entry(number).or_default();
-        seen.0 += 1;
-        seen.1.insert(got.place);
-        (number == 0).then(|| want.text.clone())
+        let found = library::compared(planner, sheet, want, room);
+        let got = same(found, sheet, &want.text);
+        let (number, place) = (got.answer.number, got.answer.place);
+        count(&mut self.plans[planner.memory as usize], number, place);
+        got
     }
 
-    /// Both planners with buffers around the exact length, and what they wrote marked on the sheet.
-    fn planners(&mut self, r: &mut Random, sheet: &[u8]) -> Option<Vec<u8>> {
-        let mut paper = None;
-        for heft in [true, false] {
-            let want = reference::plan(heft, sheet);
-            let n = want.text.len();
-            for room in [n + r.below(40), n, n.saturating_sub(1 + r.below(20))] {
-                if let Some(text) = self.plan(heft, sheet, &want, room) {
-                    self.mark(sheet, &text);
-                    paper = Some(text);
-                }
-            }
+    /// A planner with buffers around the exact length, and what it wrote marked on the sheet: the answer in the longest buffer, and the mark.
+    fn planner(&mut self, r: &mut Random, planner: Planner, sheet: &[u8]) -> (Answered, [u64; 5]) {
+        let want = reference::plan(planner, sheet);
+        let n = want.text.len();
+        for room in [n, n.saturating_sub(1 + r.below(20))] {
+            self.plan(planner, sheet, &want, room);
+        }
+        let got = self.plan(planner, sheet, &want, n + r.below(40));
+        if planner.memory == Aware {
             self.relays.planned(sheet, &want);
             self.colours.planned(sheet, &want);
+        }
+        let mark = match got.answer.number {
+            0 => self.mark(sheet, got.text()),
+            _ => [0; 5],
+        };
+        (got, mark)
+    }
+
+    /// All planners on a sheet, and the last timetable written, by a memory-aware planner where it is not stuck.
+    fn planners(&mut self, r: &mut Random, sheet: &[u8]) -> Option<Vec<u8>> {
+        let mut paper = None;
+        for heuristic in [Heft, MinMin] {
+            let (plain, mark) = self.planner(r, heuristic.with(Plain), sheet);
+            let (aware, _) = self.planner(r, heuristic.with(Aware), sheet);
+            let pair = plain::Pair {
+                heuristic,
+                plain: &plain,
+                aware: &aware,
+            };
+            same(self.plain.planned(sheet, &pair, mark), sheet, plain.text());
+            let written = [aware, plain].into_iter().find(|a| a.answer.number == 0);
+            paper = written.map(|a| a.text().to_vec()).or(paper);
         }
         paper
     }
@@ -147,15 +138,19 @@ fn edges(t: &mut Tally) {
             let long = vec![byte; n];
             t.mark(&long, paper);
             t.mark(course, &long);
-            t.plan(true, &long, &reference::plan(true, &long), 100);
+            for planner in PLANNERS {
+                let want = reference::plan(planner, &long);
+                t.plan(planner, &long, &want, 100);
+            }
             let mut behind = course.to_vec();
             behind.resize(n, byte);
             t.mark(&behind, paper);
         }
     }
-    for room in 0..120 {
-        for heft in [true, false] {
-            t.plan(heft, course, &reference::plan(heft, course), room);
+    for planner in PLANNERS {
+        let want = reference::plan(planner, course);
+        for room in 0..120 {
+            t.plan(planner, course, &want, room);
         }
     }
     t.mark(b"", b"");
@@ -250,7 +245,7 @@ fn large(t: &mut Tally, r: &mut Random) {
 
 /// A planner's timetable or one by chance; the latter where the planner is stuck.
 fn planned_table(r: &mut Random, sheet: &[u8], read: &Sheet) -> Table {
-    let plan = reference::plan(r.one_in(2), sheet);
+    let plan = reference::plan(PLANNERS[r.below(4)], sheet);
     match reference::read_table(read, &plan.text) {
         Ok((table, _)) if r.one_in(2) => table,
         _ => generate::table(r, read),
@@ -278,9 +273,9 @@ fn moved_papers(t: &mut Tally, r: &mut Random, number: u64) {
     }
 }
 
-/// The traces worked by hand, and timetables that move every file, step by step.
-fn traces(t: &mut Tally) {
-    if let Err(difference) = t.simulator.by_hand() {
+/// The traces and plans worked by hand, and timetables that move every file, step by step.
+fn by_hand(t: &mut Tally) {
+    if let Err(difference) = t.simulator.by_hand().and(t.plain.by_hand()) {
         panic!("{difference}");
     }
     for (sheet, paper) in [generate::all_moved(), generate::all_apart()] {
@@ -289,10 +284,8 @@ fn traces(t: &mut Tally) {
     }
 }
 
-fn main() {
-    let rounds: u64 = std::env::args()
-        .nth(1)
-        .map_or(4000, |a| a.parse().expect("a number of rounds"));
+/// All comparisons.
+fn compare_all(rounds: u64) -> Tally {
     let mut t = Tally::default();
     edges(&mut t);
     let mut r = Random(20_261_115);
@@ -303,25 +296,38 @@ fn main() {
     for number in 0..rounds {
         moved_papers(&mut t, &mut r, number);
     }
-    traces(&mut t);
+    by_hand(&mut t);
+    t
+}
+
+fn main() {
+    let rounds: u64 = std::env::args()
+        .nth(1)
+        .map_or(4000, |a| a.parse().expect("a number of rounds"));
+    let t = compare_all(rounds);
     let mut ok = t.print(
         "marker",
         &t.marks,
         &[0, 1, 2, 3, 4, 11, 12, 13, 14, 15, 16, 17, 18],
     );
-    ok &= t.print("planner", &t.plans, &[0, 1, 2, 3, 4, 21, 31]);
+    let [aware, plain] = &t.plans;
+    ok &= t.print("memory-aware planner", aware, &[0, 1, 2, 3, 4, 21, 31]);
+    ok &= t.print("plain planner", plain, &[0, 1, 2, 3, 4, 31]);
     t.relays.print();
     t.colours.print();
     t.simulator.print();
+    t.plain.print();
     println!("{} cases, no difference", t.cases);
+    let mut faults = [t.relays.faults(), t.colours.faults()].concat();
+    faults.extend(t.simulator.faults());
+    faults.extend(t.plain.faults());
     if !ok {
-        eprintln!("an answer was never reached");
+        faults.push("an answer was never reached".to_string());
     }
-    let faults = [t.relays.faults(), t.colours.faults(), t.simulator.faults()].concat();
     for fault in &faults {
         eprintln!("{fault}");
     }
-    if !ok || !faults.is_empty() {
+    if !faults.is_empty() {
         std::process::exit(1);
     }
 }

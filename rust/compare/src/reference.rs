@@ -1,4 +1,4 @@
-//! An implementation of document 01 with Orders 1 and 2 for tests, written from the documents in another way than the proved code:
+//! An implementation of document 01 with Orders 1, 2 and 4 for tests, written from the documents in another way than the proved code:
 //! texts are split into words, memory is a list of changes sorted by tick, weights are by recursion.
 //!
 //! What a planner tries and places, and the marker's 16, go by Order 2's four cases of maker and reader. Which move lines are due and
@@ -6,6 +6,8 @@
 
 use std::collections::BTreeMap;
 use Colour::{Blue, Red};
+use Heuristic::{Heft, MinMin};
+use Memory::{Aware, Plain};
 
 pub const MAX_TEXT: usize = 32_768;
 
@@ -458,8 +460,50 @@ pub fn fault_line(sheet: &[u8], paper: &[u8]) -> Vec<u8> {
 
 // ---- planners
 
+/// Which ready tasks a round tries, and which of them it places.
+#[derive(Clone, Copy, Debug, PartialEq, Eq)]
+pub enum Heuristic {
+    Heft,
+    MinMin,
+}
+
+/// Whether a trial asks for free memory: starts 3 and 4. The plain planners leave them out.
+#[derive(Clone, Copy, Debug, PartialEq, Eq)]
+pub enum Memory {
+    Aware,
+    Plain,
+}
+
+/// A planner: MemHEFT or MemMinMin if it is memory-aware, HEFT or MINMIN if it is plain.
+#[derive(Clone, Copy, Debug, PartialEq, Eq)]
+pub struct Planner {
+    pub heuristic: Heuristic,
+    pub memory: Memory,
+}
+
+impl Heuristic {
+    pub const fn with(self, memory: Memory) -> Planner {
+        Planner {
+            heuristic: self,
+            memory,
+        }
+    }
+}
+
+/// HEFT, MemHEFT, MINMIN and MemMinMin.
+pub const PLANNERS: [Planner; 4] = [
+    Heft.with(Plain),
+    Heft.with(Aware),
+    MinMin.with(Plain),
+    MinMin.with(Aware),
+];
+
+/// A task that a round would place, with its finish, colour and start.
+type Choice = (i64, usize, Colour, i64);
+
 struct State<'a> {
     sheet: &'a Sheet,
+    memory: Memory,
     table: Table,
     last: Vec<i64>,
     trials: u64,
@@ -467,6 +511,21 @@ struct State<'a> {
 }
 
 impl<'a> State<'a> {
+    /// Before the first round.
+    fn new(sheet: &'a Sheet, memory: Memory) -> State<'a> {
+        State {
+            sheet,
+            memory,
+            table: Table {
+                runs: vec![None; sheet.tasks.len()],
+                moves: vec![0; sheet.files.len()],
+            },
+            last: vec![0; (sheet.processors[0] + sheet.processors[1]) as usize],
+            trials: 0,
+            met: ByCase::default(),
+        }
+    }
+
     fn slots(&self, colour: Colour) -> std::ops::Range<usize> {
         let blue = self.sheet.processors[0] as usize;
         match colour {
@@ -524,9 +583,15 @@ impl<'a> State<'a> {
             .map(|f| f.size)
             .sum();
         let processor = self.slots(colour).map(|p| self.last[p]).min().unwrap();
-        let running = self.free_from(colour, newly + made)?;
-        let moving = self.free_from(colour, newly)? + longest;
-        Some(processor.max(arrived).max(running).max(moving))
+        let start = processor.max(arrived);
+        match self.memory {
+            Plain => Some(start),
+            Aware => {
+                let running = self.free_from(colour, newly + made)?;
+                let moving = self.free_from(colour, newly)? + longest;
+                Some(start.max(running).max(moving))
+            }
+        }
     }
 
     /// Both colours: finish, colour and start of the better.
@@ -558,6 +623,42 @@ impl<'a> State<'a> {
         self.table.runs[i] = Some((slot as i64 + 1, start));
         self.last[slot] = start + self.sheet.run_time(i, colour);
     }
+
+    /// HEFT's round: the first of the list that fits.
+    fn first(&mut self, list: &[usize]) -> Option<Choice> {
+        list.iter().find_map(|i| {
+            let (f, c, t) = self.ready(*i).then(|| self.best(*i))??;
+            Some((f, *i, c, t))
+        })
+    }
+
+    /// MINMIN's round: the earliest finish of all that fit.
+    fn earliest(&mut self) -> Option<Choice> {
+        let mut choice: Option<Choice> = None;
+        for i in 0..self.sheet.tasks.len() {
+            if self.ready(i) {
+                if let Some((f, c, t)) = self.best(i) {
+                    choice = choice.filter(|b| b.0 <= f).or(Some((f, i, c, t)));
+                }
+            }
+        }
+        choice
+    }
+
+    /// Round by round until all tasks are placed; the tasks placed if a round is stuck.
+    fn place_all(&mut self, heuristic: Heuristic) -> Result<(), u64> {
+        let n = self.sheet.tasks.len();
+        let list = by_weight(self.sheet);
+        for placed in 0..n {
+            let choice = match heuristic {
+                Heft => self.first(&list),
+                MinMin => self.earliest(),
+            };
+            let (_, i, c, t) = choice.ok_or(placed as u64)?;
+            self.place(i, c, t);
+        }
+        Ok(())
+    }
 }
 
 fn weight(sheet: &Sheet, i: usize, known: &mut Vec<Option<i64>>) -> i64 {
@@ -576,6 +677,15 @@ fn weight(sheet: &Sheet, i: usize, known: &mut Vec<Option<i64>>) -> i64 {
     w
 }
 
+/// The tasks by falling weight, ties to the lower task.
+fn by_weight(sheet: &Sheet) -> Vec<usize> {
+    let n = sheet.tasks.len();
+    let mut known = vec![None; n];
+    let mut list: Vec<usize> = (0..n).collect();
+    list.sort_by_key(|i| std::cmp::Reverse(weight(sheet, *i, &mut known)));
+    list
+}
+
 pub struct Planned {
     pub number: u64,
     pub place: u64,
@@ -585,8 +695,8 @@ pub struct Planned {
     pub text: Vec<u8>,
 }
 
-/// A planner on a sheet: MemHEFT, or MemMinMin. 31 is left to the caller.
-pub fn plan(heft: bool, text: &[u8]) -> Planned {
+/// A planner on a sheet. 31 is left to the caller.
+pub fn plan(planner: Planner, text: &[u8]) -> Planned {
     let refused = |r: Refused, trials, met| Planned {
         number: r.0,
         place: r.1,
@@ -598,44 +708,9 @@ pub fn plan(heft: bool, text: &[u8]) -> Planned {
         Ok(s) => s,
         Err(r) => return refused(r, 0, ByCase::default()),
     };
-    let n = sheet.tasks.len();
-    let mut known = vec![None; n];
-    let mut list: Vec<usize> = (0..n).collect();
-    list.sort_by_key(|i| std::cmp::Reverse(weight(&sheet, *i, &mut known)));
-    let mut s = State {
-        sheet: &sheet,
-        table: Table {
-            runs: vec![None; n],
-            moves: vec![0; sheet.files.len()],
-        },
-        last: vec![0; (sheet.processors[0] + sheet.processors[1]) as usize],
-        trials: 0,
-        met: ByCase::default(),
-    };
-    for placed in 0..n {
-        let mut choice: Option<(i64, usize, Colour, i64)> = None;
-        if heft {
-            for i in &list {
-                if s.ready(*i) {
-                    if let Some((f, c, t)) = s.best(*i) {
-                        choice = Some((f, *i, c, t));
-                        break;
-                    }
-                }
-            }
-        } else {
-            for i in 0..n {
-                if s.ready(i) {
-                    if let Some((f, c, t)) = s.best(i) {
-                        choice = choice.filter(|b| b.0 <= f).or(Some((f, i, c, t)));
-                    }
-                }
-            }
-        }
-        match choice {
-            Some((_, i, c, t)) => s.place(i, c, t),
-            None => return refused((21, placed as u64), s.trials, s.met),
-        }
+    let mut s = State::new(&sheet, planner.memory);
+    if let Err(placed) = s.place_all(planner.heuristic) {
+        return refused((21, placed), s.trials, s.met);
     }
     let text = write_table(&sheet, &s.table).into_bytes();
     Planned {

@@ -52,6 +52,20 @@ extern "C" {
         out_len: usize,
         result: *mut [u64; 3],
     );
+    fn frames_heft(
+        sheet: *const u8,
+        sheet_len: usize,
+        out: *mut u8,
+        out_len: usize,
+        result: *mut [u64; 3],
+    );
+    fn frames_min_min(
+        sheet: *const u8,
+        sheet_len: usize,
+        out: *mut u8,
+        out_len: usize,
+        result: *mut [u64; 3],
+    );
 }
 
 /// The longest text that is read, in bytes; no timetable of a planner is longer (proved: `PlansShort` of crates/rules).
@@ -125,11 +139,19 @@ pub fn fault_line(sheet: &[u8], paper: &[u8]) -> Vec<u8> {
     line
 }
 
-/// The two planners.
+/// The planners: two memory-aware ones, and their plain parents, which do not look at the memories.
+///
+/// A plain planner is never [stuck](Refusal::Stuck), and its timetable may be over a limit: [`mark`] accepts it on its sheet, or answers
+/// [`Refusal::OverLimit`] and no other refusal. Its claim names the span and the peaks that the timetable has. When each limit is at least
+/// the sum of all file sizes, a memory-aware planner answers and writes what its plain parent does.
 #[derive(Clone, Copy, Debug, PartialEq, Eq)]
 pub enum Planner {
     MemHeft,
     MemMinMin,
+    /// The plain parent of MemHEFT.
+    Heft,
+    /// The plain parent of MemMinMin.
+    MinMin,
 }
 
 /// A planner's answer as it stands: number (0 for success), place (then the bytes written) and trials.
@@ -146,6 +168,8 @@ pub fn plan_into(planner: Planner, sheet: &[u8], out: &mut [u8]) -> Answer {
     let call = match planner {
         Planner::MemHeft => frames_mem_heft,
         Planner::MemMinMin => frames_mem_min_min,
+        Planner::Heft => frames_heft,
+        Planner::MinMin => frames_min_min,
     };
     unsafe {
         call(
@@ -249,9 +273,17 @@ mod tests {
         let _ = planned(answer(22, 0), vec![]);
     }
 
+    /// The planners, with the trials that each makes on the course example; all write the same there.
+    const PLANNERS: [(Planner, u64); 4] = [
+        (Planner::MemHeft, 6),
+        (Planner::MemMinMin, 8),
+        (Planner::Heft, 6),
+        (Planner::MinMin, 8),
+    ];
+
     #[test]
     fn course_example() {
-        for (planner, trials) in [(Planner::MemHeft, 6), (Planner::MemMinMin, 8)] {
+        for (planner, trials) in PLANNERS {
             let plan = plan(planner, COURSE).unwrap();
             assert_eq!((plan.timetable.as_slice(), plan.trials), (PAPER, trials));
         }
@@ -278,20 +310,42 @@ mod tests {
             mark(b"", b""),
             Verdict::Refused(Refusal::SheetMalformed { line: 1 })
         );
-        assert_eq!(
-            plan(Planner::MemHeft, b""),
-            Err(Refusal::SheetMalformed { line: 1 })
-        );
-        let mut short = [7u8; 75];
-        let short_answer = Answer {
-            number: 31,
-            place: 76,
-            trials: 6,
-        };
-        assert_eq!(
-            plan_into(Planner::MemHeft, COURSE, &mut short),
-            short_answer
-        );
-        assert_eq!(short, [7u8; 75]);
+    }
+
+    #[test]
+    fn refusals_of_the_planners() {
+        for (planner, trials) in PLANNERS {
+            assert_eq!(plan(planner, b""), Err(Refusal::SheetMalformed { line: 1 }));
+            let mut short = [7u8; 75];
+            let short_answer = Answer {
+                number: 31,
+                place: 76,
+                trials,
+            };
+            assert_eq!(plan_into(planner, COURSE, &mut short), short_answer);
+            assert_eq!(short, [7u8; 75]);
+        }
+    }
+
+    /// The course example with other limits: the plain planners write what they wrote, and the marker refuses it by 17.
+    #[test]
+    fn plain_planners_over_a_limit() {
+        let course = std::str::from_utf8(COURSE).unwrap();
+        let tight = course.replace("blue 1 6", "blue 1 4");
+        let both = tight.replace("red 1 6", "red 1 4");
+        for (sheet, tick) in [(&tight, 4), (&both, 0)] {
+            for planner in [Planner::Heft, Planner::MinMin] {
+                assert_eq!(plan(planner, sheet.as_bytes()).unwrap().timetable, PAPER);
+            }
+            let over = Verdict::Refused(Refusal::OverLimit { tick });
+            assert_eq!(mark(sheet.as_bytes(), PAPER), over);
+        }
+        for planner in [Planner::MemHeft, Planner::MemMinMin] {
+            let fitted = plan(planner, tight.as_bytes()).unwrap().timetable;
+            let verdict = mark(tight.as_bytes(), &fitted);
+            assert!(matches!(verdict, Verdict::Accepted { blue_peak: 2, .. }));
+            let stuck = Err(Refusal::Stuck { placed: 0 });
+            assert_eq!(plan(planner, both.as_bytes()), stuck);
+        }
     }
 }

@@ -21,7 +21,7 @@ slice-aggregate-print-answer c = search needs
 print-answer-requires : tie.Need-print-answer-requires
 print-answer-requires c κs =
     let m = c .before .before .mem-heft in
-    long-enough memHeft _ _ (m .last .1 .0) (m .result) (omega arith) (m .kept .1 .0) (m .ensures .1)
+    long-enough memHeft _ _ (m .last .1 .0) (m .result) (omega arith) (m .kept .1 .0) (m .ensures .1 .0)
 
 returns : tie.Need-returns
 returns c = search needs

@@ -4,7 +4,7 @@ use native.Mathlib.Omega.{arith}
 use lib.ListN.{length}
 use Rattle.text.specs.Wrote.{Wrote}
 use Rattle.model.specs.Layout.{jobOf, entriesOf, instanceFrom, scheduleFrom}
-use Rattle.plan_text.specs.Answers.{planText}
+use Rattle.rules.specs.Calls.{planText}
 use Rattle.plan_text.proofs.AnswerLaws.{too-short, long-enough}
 use borrow.Author.Needs.{needs}
 use Rattle.plan_text.proofs.write_plan.Statement.{statement}

@@ -5,32 +5,32 @@ use borrow.Author.Needs.{needs}
 use Rattle.planner.proofs.round.Statement.{statement}
 use Rattle.planner.proofs.round.Tie as tie
 
-enum-told : tie.Need-enum-told
-enum-told c = search needs
+enum-known-rule : tie.Need-enum-known-rule
+enum-known-rule c = search needs
 
 first-that-fits-requires : tie.Need-first-that-fits-requires
 first-that-fits-requires c κs = search needs
 
-enum-told-2 : tie.Need-enum-told-2
-enum-told-2 c = search needs
+enum-known-rule-2 : tie.Need-enum-known-rule-2
+enum-known-rule-2 c = search needs
 
 earliest-round-requires : tie.Need-earliest-round-requires
 earliest-round-requires c κs = search needs
 
 returns : tie.Need-returns
 returns c =
-    let s = c .before .before .before in (
+    let s = c .before .before .before .before in (
       heft-round (instanceFrom (s .args .shape) (jobOf (s .args .job .now)))
-          (partialFrom (s .args .shape) (entriesOf (s .args .schedule .now)) (s .args .last .now)) (c .before .enum-told .given .1) (s .pre .1 .1 .1)
+          (partialFrom (s .args .shape) (entriesOf (s .args .schedule .now)) (s .args .last .now)) (c .before .before .rule .given .1) (s .pre .1 .1 .1)
           (c .first-that-fits .ensures .0),
       c .first-that-fits .ensures .1,
     )
 
 returns-2 : tie.Need-returns-2
 returns-2 c =
-    let s = c .before .before .before in (
+    let s = c .before .before .before .before in (
       min-min-round (instanceFrom (s .args .shape) (jobOf (s .args .job .now)))
-          (partialFrom (s .args .shape) (entriesOf (s .args .schedule .now)) (s .args .last .now)) (c .before .enum-told2 .given .1)
+          (partialFrom (s .args .shape) (entriesOf (s .args .schedule .now)) (s .args .last .now)) (c .before .before .rule2 .given .1)
           (c .earliest-round .ensures .0),
       c .earliest-round .ensures .1,
     )
@@ -39,9 +39,9 @@ pub round-spec : {M : Type 1} → statement M
 round-spec =
     tie.close
     (tie.spec
-    enum-told
+    enum-known-rule
     first-that-fits-requires
-    enum-told-2
+    enum-known-rule-2
     earliest-round-requires
     returns
     returns-2)

@@ -2,9 +2,10 @@
 //! median of many calls, in one run on one machine.
 
 use compare::generate::{all_apart, all_moved, large_sheet, Random};
-use compare::reference;
+use compare::library::named;
+use compare::reference::{self, Planner, PLANNERS};
 use compare::simulation;
-use frames::{Planner, Progress, Verdict};
+use frames::{Progress, Verdict};
 use std::time::Instant;
 
 /// The median time of a call in microseconds.
@@ -24,6 +25,9 @@ fn median_of(calls: usize, mut call: impl FnMut()) -> f64 {
     times[times.len() / 2]
 }
 
+/// The planners of `PLANNERS`.
+const NAMES: [&str; 4] = ["HEFT", "MemHEFT", "MINMIN", "MemMinMin"];
+
 /// The size of a row's sheet.
 struct Row {
     tasks: usize,
@@ -34,6 +38,22 @@ impl Row {
     fn print(&self, what: &str, ours: f64, theirs: f64) {
         let Row { tasks, files } = self;
         println!("| {tasks} | {files} | {what} | {ours:.0} | {theirs:.0} |");
+    }
+
+    /// A planner on a sheet that it can plan; its timetable.
+    fn planner(&self, what: &str, planner: Planner, sheet: &[u8]) -> Vec<u8> {
+        let mut out = vec![0u8; reference::MAX_TEXT];
+        let answer = frames::plan_into(named(planner), sheet, &mut out);
+        assert_eq!(answer.number, 0, "the sheet is planned");
+        let ours = median(|| {
+            frames::plan_into(named(planner), sheet, &mut out);
+        });
+        let theirs = median(|| {
+            reference::plan(planner, sheet);
+        });
+        self.print(what, ours, theirs);
+        out.truncate(answer.place as usize);
+        out
     }
 
     /// The marker on an accepted timetable.
@@ -91,22 +111,9 @@ fn main() {
             .files
             .len();
         let row = Row { tasks, files };
-        let mut out = vec![0u8; reference::MAX_TEXT];
         let mut paper = vec![];
-        for (name, planner, heft) in [
-            ("MemHEFT", Planner::MemHeft, true),
-            ("MemMinMin", Planner::MemMinMin, false),
-        ] {
-            let a = frames::plan_into(planner, &sheet, &mut out);
-            assert_eq!(a.number, 0, "the sheet is planned");
-            paper = out[..a.place as usize].to_vec();
-            let ours = median(|| {
-                frames::plan_into(planner, &sheet, &mut out);
-            });
-            let theirs = median(|| {
-                reference::plan(heft, &sheet);
-            });
-            row.print(name, ours, theirs);
+        for (name, planner) in NAMES.iter().zip(PLANNERS) {
+            paper = row.planner(name, planner, &sheet);
         }
         let read = median(|| {
             frames::mark(&sheet, b"");

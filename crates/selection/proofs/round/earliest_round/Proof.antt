@@ -5,28 +5,29 @@ use native.Mathlib.Omega.{arith}
 use Rattle.rules.specs.Scheduling.{earliestBelow}
 use Rattle.model.specs.Layout.{jobOf, entriesOf, instanceFrom, partialFrom}
 use Rattle.selection.specs.Choices.{asChoice, ChoiceBounds}
+use Rattle.starts.specs.FreeMemory.{asMemory}
 use Rattle.selection.proofs.RoundLaws.{below-choice, below-trials, choice-turn, trials-turn, below-total}
 use borrow.Author.Needs.{needs}
 use Rattle.selection.proofs.round.earliest_round.Statement.{statement}
 use Rattle.selection.proofs.round.earliest_round.Tie as tie
 
 abbrev Inv-loop : tie.InvT-loop
-Inv-loop shape job schedule last choice₀ trials₀ i₀ choice trials i =
+Inv-loop memory shape job schedule last choice₀ trials₀ i₀ choice trials i =
     (i ≤ shape .tasks) × (trials ≤ 2 * i)
-    × (asChoice choice ≡ earliestBelow (instanceFrom shape (jobOf job)) (partialFrom shape (entriesOf schedule) last) i .choice)
-    × (trials ≡ earliestBelow (instanceFrom shape (jobOf job)) (partialFrom shape (entriesOf schedule) last) i .trials)
+    × (asChoice choice ≡ earliestBelow (asMemory memory) (instanceFrom shape (jobOf job)) (partialFrom shape (entriesOf schedule) last) i .choice)
+    × (trials ≡ earliestBelow (asMemory memory) (instanceFrom shape (jobOf job)) (partialFrom shape (entriesOf schedule) last) i .trials)
     × ChoiceBounds shape choice
 
 abbrev μ-loop : tie.MeasureT-loop
-μ-loop shape job schedule last choice₀ trials₀ i₀ choice trials i = shape .tasks - i
+μ-loop memory shape job schedule last choice₀ trials₀ i₀ choice trials i = shape .tasks - i
 
 loop-holds : tie.Need-loop-holds Inv-loop μ-loop
 loop-holds c =
     let a = c .args in (
       omega arith,
       omega arith,
-      sym (below-choice (a .shape) (jobOf (a .job .now)) (entriesOf (a .schedule .now)) (a .last .now)),
-      sym (below-trials (a .shape) (jobOf (a .job .now)) (entriesOf (a .schedule .now)) (a .last .now)),
+      sym (below-choice (asMemory (a .memory)) (a .shape) (jobOf (a .job .now)) (entriesOf (a .schedule .now)) (a .last .now)),
+      sym (below-trials (asMemory (a .memory)) (a .shape) (jobOf (a .job .now)) (entriesOf (a .schedule .now)) (a .last .now)),
       tt,
     )
 
@@ -50,12 +51,12 @@ loop-again c =
     let a = c .before .before .before .before .before .before .args in (
       omega arith,
       omega arith,
-      choice-turn (a .shape) (jobOf (a .job .now)) (entriesOf (a .schedule .now)) (a .last .now) (c .before .before .before .before .before .loop .i)
+      choice-turn (asMemory (a .memory)) (a .shape) (jobOf (a .job .now)) (entriesOf (a .schedule .now)) (a .last .now) (c .before .before .before .before .before .loop .i)
           (c .before .before .try-task .result) (c .before .before .try-task .ensures .0) (c .before .before .before .before .before .loop .choice)
           (c .before .earlier .result) (c .before .before .before .before .before .loop .inv .2) (c .before .earlier .ensures .0),
       omega (
         arith,
-        trials-turn (a .shape) (jobOf (a .job .now)) (entriesOf (a .schedule .now)) (a .last .now) (c .before .before .before .before .before .loop .i)
+        trials-turn (asMemory (a .memory)) (a .shape) (jobOf (a .job .now)) (entriesOf (a .schedule .now)) (a .last .now) (c .before .before .before .before .before .loop .i)
             (c .before .before .try-task .result) (c .before .before .try-task .ensures .0),
       ),
       c .before .earlier .ensures .1,
@@ -64,7 +65,7 @@ loop-again c =
 returns : tie.Need-returns Inv-loop μ-loop
 returns c =
     let a = c .before .before .before .args in (
-      below-total (a .shape) (jobOf (a .job .now)) (entriesOf (a .schedule .now)) (a .last .now) {n = c .before .before .loop .i} (omega arith)
+      below-total (asMemory (a .memory)) (a .shape) (jobOf (a .job .now)) (entriesOf (a .schedule .now)) (a .last .now) {n = c .before .before .loop .i} (omega arith)
           (c .before .before .loop .choice) (c .before .before .loop .inv .2) (c .before .before .loop .inv .3),
       (c .before .before .loop .inv .4, omega arith),
     )

@@ -2,21 +2,22 @@
 use Prim.Native.Nat.{_≤_, _*_, _-_}
 use native.Mathlib.Omega.{arith}
 use Rattle.model.specs.Layout.{jobOf, entriesOf}
+use Rattle.starts.specs.FreeMemory.{asMemory}
 use Rattle.selection.proofs.RoundLaws.{Left, left-all, left-next, left-taken, left-none}
 use borrow.Author.Needs.{needs}
 use Rattle.selection.proofs.round.first_that_fits.Statement.{statement}
 use Rattle.selection.proofs.round.first_that_fits.Tie as tie
 
 abbrev Inv-loop : tie.InvT-loop
-Inv-loop shape job schedule last order trials₀ i₀ trials i =
-    (i ≤ shape .tasks) × (trials ≤ 2 * i) × Left shape (jobOf job) (entriesOf schedule) last order i trials
+Inv-loop memory shape job schedule last order trials₀ i₀ trials i =
+    (i ≤ shape .tasks) × (trials ≤ 2 * i) × Left (asMemory memory) shape (jobOf job) (entriesOf schedule) last order i trials
 
 abbrev μ-loop : tie.MeasureT-loop
-μ-loop shape job schedule last order trials₀ i₀ trials i = shape .tasks - i
+μ-loop memory shape job schedule last order trials₀ i₀ trials i = shape .tasks - i
 
 loop-holds : tie.Need-loop-holds Inv-loop μ-loop
 loop-holds c =
-    let a = c .args in (omega arith, omega arith, left-all (a .shape) (jobOf (a .job .now)) (entriesOf (a .schedule .now)) (a .last .now) (a .order .now))
+    let a = c .args in (omega arith, omega arith, left-all (asMemory (a .memory)) (a .shape) (jobOf (a .job .now)) (entriesOf (a .schedule .now)) (a .last .now) (a .order .now))
 
 mul-try-task : tie.Need-mul-try-task Inv-loop μ-loop
 mul-try-task c = search needs
@@ -37,7 +38,7 @@ is-chosen-requires c κs = search needs
 returns : tie.Need-returns Inv-loop μ-loop
 returns c =
     let a = c .before .before .before .before .before .before .before .before .args in (
-      left-taken (a .shape) (jobOf (a .job .now)) (entriesOf (a .schedule .now)) (a .last .now) (a .order .now)
+      left-taken (asMemory (a .memory)) (a .shape) (jobOf (a .job .now)) (entriesOf (a .schedule .now)) (a .last .now) (a .order .now)
           (c .before .before .before .before .before .before .before .loop .trials) (c .before .before .before .before .before .if1 .taken)
           (c .before .before .before .before .before .before .before .loop .inv .2) (c .before .before .before .try-task .result)
           (c .before .before .before .try-task .ensures .0) (c .before .is-chosen .ensures) (c .if2 .taken),
@@ -55,7 +56,7 @@ loop-again c =
     let a = c .before .before .before .before .before .before .before .before .args in (
       omega arith,
       omega arith,
-      left-next (a .shape) (jobOf (a .job .now)) (entriesOf (a .schedule .now)) (a .last .now) (a .order .now)
+      left-next (asMemory (a .memory)) (a .shape) (jobOf (a .job .now)) (entriesOf (a .schedule .now)) (a .last .now) (a .order .now)
           (c .before .before .before .before .before .before .before .loop .trials) (c .before .before .before .before .before .if1 .taken)
           (c .before .before .before .before .before .before .before .loop .inv .2) (c .before .before .before .try-task .result)
           (c .before .before .before .try-task .ensures .0) (c .before .is-chosen .ensures) (c .if2 .left),
@@ -64,7 +65,7 @@ loop-again c =
 returns-2 : tie.Need-returns-2 Inv-loop μ-loop
 returns-2 c =
     let a = c .before .before .before .args in (
-      left-none (a .shape) (jobOf (a .job .now)) (entriesOf (a .schedule .now)) (a .last .now) (a .order .now) {i = c .before .before .loop .i}
+      left-none (asMemory (a .memory)) (a .shape) (jobOf (a .job .now)) (entriesOf (a .schedule .now)) (a .last .now) (a .order .now) {i = c .before .before .loop .i}
           (c .before .before .loop .inv .2) (omega arith),
       (tt, omega arith),
     )

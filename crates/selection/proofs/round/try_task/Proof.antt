@@ -1,6 +1,7 @@
 -- `try_task` meets its contract.
 use native.Mathlib.Omega.{arith}
 use Rattle.model.specs.Layout.{jobOf, entriesOf}
+use Rattle.starts.specs.FreeMemory.{asMemory}
 use Rattle.selection.proofs.RoundLaws.{one-tried, one-left}
 use borrow.Author.Needs.{needs}
 use Rattle.selection.proofs.round.try_task.Statement.{statement}
@@ -15,7 +16,7 @@ both-colours-requires c κs = search needs
 returns : tie.Need-returns
 returns c =
     let a = c .before .before .before .args in (
-      one-tried (a .shape) (jobOf (a .job .now)) (entriesOf (a .schedule .now)) (a .last .now) (a .task) (c .before .before .ready .ensures)
+      one-tried (asMemory (a .memory)) (a .shape) (jobOf (a .job .now)) (entriesOf (a .schedule .now)) (a .last .now) (a .task) (c .before .before .ready .ensures)
           (c .before .if1 .taken) (c .both-colours .result) (c .both-colours .ensures .0),
       (c .both-colours .ensures .1, omega arith),
     )
@@ -23,7 +24,7 @@ returns c =
 returns-2 : tie.Need-returns-2
 returns-2 c =
     let a = c .before .before .args in (
-      one-left (a .shape) (jobOf (a .job .now)) (entriesOf (a .schedule .now)) (a .last .now) (a .task) (c .before .ready .ensures) (c .if1 .left),
+      one-left (asMemory (a .memory)) (a .shape) (jobOf (a .job .now)) (entriesOf (a .schedule .now)) (a .last .now) (a .task) (c .before .ready .ensures) (c .if1 .left),
       (tt, omega arith),
     )
 

@@ -1,5 +1,6 @@
 -- `both_colours` meets its contract.
 use Rattle.model.specs.Layout.{jobOf, entriesOf, instanceFrom, partialFrom}
+use Rattle.starts.specs.FreeMemory.{asMemory}
 use Rattle.selection.proofs.ChoiceLaws.{both-at}
 use borrow.Author.Needs.{needs}
 use Rattle.selection.proofs.trial.both_colours.Statement.{statement}
@@ -25,7 +26,7 @@ earlier-requires c κs =
 returns : tie.Need-returns
 returns c =
     let a = c .before .before .before .before .before .args in (
-      both-at (instanceFrom (a .shape) (jobOf (a .job .now))) (partialFrom (a .shape) (entriesOf (a .schedule .now)) (a .last .now)) (a .task)
+      both-at (asMemory (a .memory)) (instanceFrom (a .shape) (jobOf (a .job .now))) (partialFrom (a .shape) (entriesOf (a .schedule .now)) (a .last .now)) (a .task)
           (c .before .before .before .before .earliest-start .result) (c .before .before .before .earliest-start2 .result)
           (c .before .before .tried .result) (c .before .tried2 .result) (c .earlier .result)
           (c .before .before .before .before .earliest-start .ensures .0) (c .before .before .before .earliest-start2 .ensures .0)

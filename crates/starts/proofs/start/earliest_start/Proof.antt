@@ -1,7 +1,8 @@
 -- `earliest_start` meets its contract.
 use native.Mathlib.Omega.{arith}
 use Rattle.model.specs.Layout.{jobOf, entriesOf}
-use Rattle.starts.proofs.EarliestStartLaws.{earliest-at}
+use Rattle.starts.specs.FreeMemory.{asMemory}
+use Rattle.starts.proofs.EarliestStartLaws.{tick-of, earliest-none, earliest-at}
 use borrow.Author.Needs.{needs}
 use Rattle.starts.proofs.start.earliest_start.Statement.{statement}
 use Rattle.starts.proofs.start.earliest_start.Tie as tie
@@ -15,28 +16,41 @@ processor-start-requires c κs = search needs
 greater-requires : tie.Need-greater-requires
 greater-requires c κs = search needs
 
-add-free-from : tie.Need-add-free-from
-add-free-from c = search needs
+memory-start-requires : tie.Need-memory-start-requires
+memory-start-requires c κs = search needs
 
-free-from-requires : tie.Need-free-from-requires
-free-from-requires c κs = search needs
+enum-known-room : tie.Need-enum-known-room
+enum-known-room c = search needs
 
-free-from-requires-2 : tie.Need-free-from-requires-2
-free-from-requires-2 c κs = search needs
-
-latest-requires : tie.Need-latest-requires
-latest-requires c κs = search needs
+enum-told : tie.Need-enum-told
+enum-told c = search needs
 
 returns : tie.Need-returns
 returns c =
-    let starts = c .before .before .before .before in
-    let s = starts .before .before .before in
-    let a = s .args in (
-      earliest-at (a .shape) (jobOf (a .job .now)) (entriesOf (a .schedule .now)) (a .last .now) (a .task) (a .colour)
-          (c .before .before .free-from .result) (c .before .free-from2 .result) (c .latest .result)
-          (starts .before .before .demand-of .ensures .0) (starts .before .processor-start .ensures .0 _ _) (starts .greater .ensures)
-          (c .before .before .free-from .ensures .0) (c .before .free-from2 .ensures .0) (c .latest .ensures .0),
+    let room = c .before .before in
+    let starts = room .before in
+    let a = starts .before .before .before .args in
+    let d = starts .before .before .demand-of .ensures .0 in (
+      earliest-none (a .shape) (jobOf (a .job .now)) (entriesOf (a .schedule .now)) (a .last .now) (asMemory (a .memory)) (a .task) (a .colour) d
+          (starts .before .processor-start .ensures .0 _ _) (starts .greater .ensures)
+          (room .memory-start .result) (room .memory-start .ensures .0 (a .task) d) (c .enum-told .given .1),
       omega arith,
+    )
+
+greater-requires-2 : tie.Need-greater-requires-2
+greater-requires-2 c κs = search needs
+
+returns-2 : tie.Need-returns-2
+returns-2 c =
+    let room = c .before .before .before .before in
+    let starts = room .before in
+    let a = starts .before .before .before .args in
+    let d = starts .before .before .demand-of .ensures .0 in
+    let s = c .before .before .room .given .1 in (
+      earliest-at (a .shape) (jobOf (a .job .now)) (entriesOf (a .schedule .now)) (a .last .now) (asMemory (a .memory)) (a .task) (a .colour) d
+          (starts .before .processor-start .ensures .0 _ _) (starts .greater .ensures)
+          (room .memory-start .result) (room .memory-start .ensures .0 (a .task) d) s (c .greater2 .ensures),
+      omega (arith, tick-of s),
     )
 
 pub earliest-start-spec : {M : Type 1} → statement M
@@ -46,8 +60,9 @@ earliest-start-spec =
     demand-of-requires
     processor-start-requires
     greater-requires
-    add-free-from
-    free-from-requires
-    free-from-requires-2
-    latest-requires
-    returns)
+    memory-start-requires
+    enum-known-room
+    enum-told
+    returns
+    greater-requires-2
+    returns-2)

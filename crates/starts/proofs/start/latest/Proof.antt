@@ -12,7 +12,7 @@ enum-told : tie.Need-enum-told
 enum-told c = search needs
 
 returns : tie.Need-returns
-returns c = let a = c .before .before .args in (latest-first (a .ready) (a .running) (a .moving) (a .delay) (c .enum-told .given .1), omega arith)
+returns c = let a = c .before .before .args in (latest-first (a .running) (a .moving) (a .delay) (c .enum-told .given .1), omega arith)
 
 enum-known-moving : tie.Need-enum-known-moving
 enum-known-moving c = search needs
@@ -23,7 +23,7 @@ enum-told-2 c = search needs
 returns-2 : tie.Need-returns-2
 returns-2 c =
     let a = c .before .before .before .before .before .args in
-    (latest-second (a .ready) (a .running) (a .moving) (a .delay) (c .before .before .before .running .given .1) (c .enum-told2 .given .1), omega arith)
+    (latest-second (a .running) (a .moving) (a .delay) (c .before .before .before .running .given .1) (c .enum-told2 .given .1), omega arith)
 
 add-greater : tie.Need-add-greater
 add-greater c = omega (arith, tick-of (c .before .moving .given .1))
@@ -31,16 +31,12 @@ add-greater c = omega (arith, tick-of (c .before .moving .given .1))
 greater-requires : tie.Need-greater-requires
 greater-requires c κs = search needs
 
-greater-requires-2 : tie.Need-greater-requires-2
-greater-requires-2 c κs = search needs
-
 returns-3 : tie.Need-returns-3
 returns-3 c =
-    let a = c .before .before .before .before .before .before .before .before .args in (
-      latest-both (a .ready) (a .running) (a .moving) (a .delay) (c .before .before .before .before .before .before .running .given .1)
-          (c .before .before .before .moving .given .1) (omega arith),
-      omega (arith, tick-of (c .before .before .before .before .before .before .running .given .1), tick-of (c .before .before .before .moving .given .1)),
-    )
+    let a = c .before .before .before .before .before .before .before .args in
+    let s = c .before .before .before .before .before .running .given .1 in
+    let t = c .before .before .moving .given .1 in
+    (latest-both (a .running) (a .moving) (a .delay) s t (omega arith), omega (arith, tick-of s, tick-of t))
 
 pub latest-spec : {M : Type 1} → statement M
 latest-spec =
@@ -54,5 +50,4 @@ latest-spec =
     returns-2
     add-greater
     greater-requires
-    greater-requires-2
     returns-3)
