@@ -28,6 +28,7 @@ timetable=$(cat paper)$'\n'
 mkdir folder
 sed 's/(task 2 3 5)/(task 2 1000001 5)/' sheet > bad.sheet
 sed 's/6)/4)/g' sheet > tight.sheet
+sed '1s/6)/4)/g' sheet > limits.sheet
 head -n 1 sheet > board.sheet
 for n in 32768 32769 40000 65536 100000; do
     { cat sheet; yes '(file 1 2 2 1)'; } 2> /dev/null | head -c "$n" > "$n.sheet" || true
@@ -97,8 +98,8 @@ expect 'no room for a refusal' 'frameplan < /dev/null > /dev/full' '' $'framepla
 expect 'closed standard output' 'frameplan < sheet >&-' '' $'frameplan: standard output: Bad file descriptor\n'
 expect 'HEFT by name' 'frameplan heft < sheet' "$timetable" ''
 expect 'MINMIN by name' 'frameplan minmin < sheet' "$timetable" ''
-expect 'HEFT where MemHEFT is stuck' 'frameplan heft < tight.sheet' "$timetable" ''
-expect 'MINMIN where MemMinMin is stuck' 'frameplan minmin < tight.sheet' "$timetable" ''
+expect 'HEFT where MemHEFT is stuck' 'frameplan memheft < limits.sheet; frameplan heft < limits.sheet' $'(refused 21 0)\n'"$timetable" ''
+expect 'MINMIN where MemMinMin is stuck' 'frameplan memminmin < limits.sheet; frameplan minmin < limits.sheet' $'(refused 21 0)\n'"$timetable" ''
 expect 'HEFT, a refused sheet' 'frameplan heft < bad.sheet' $'(refused 3 3)\n' ''
 expect 'MINMIN, a sheet of 32769 bytes' 'frameplan minmin < 32769.sheet' $'(refused 1 0)\n' ''
 expect 'HEFT and MINMIN apart' 'frameplan heft < apart.sheet; frameplan minmin < apart.sheet' "$apart" ''
@@ -121,6 +122,7 @@ expect 'a fault of no line' 'framemark sheet early.paper' $'(refused 15 2)\n' ''
 expect 'a paper with a relay' 'framemark relay.sheet relay.paper' $'(accepted 8 5 6)\n' ''
 expect 'a relay inside a run' 'framemark relay.sheet inside.paper' $'(refused 15 1)\n' ''
 expect 'a relay at the start of a run' 'framemark relay.sheet at_start.paper' $'(accepted 8 2 6)\n' ''
+expect 'a plain plan over a limit' 'framemark limits.sheet <(frameplan heft < limits.sheet)' $'(refused 17 0)\n' ''
 expect 'a relay whose files together are over a limit' 'framemark relay_tight.sheet relay.paper' $'(refused 17 2)\n' ''
 expect 'an absent line' 'framemark sheet short.paper' $'(refused 12 6)\n' ''
 expect 'an absent line of the sheet' 'framemark board.sheet paper' $'(refused 2 2)\n' ''

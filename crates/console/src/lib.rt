@@ -3,6 +3,7 @@ mod answers;
 mod errors;
 mod escape;
 mod input;
+mod planners;
 
 pub use answers::print_answer;
 pub use answers::print_marks;
@@ -15,3 +16,5 @@ pub use input::read_argument;
 pub use input::read_descriptor;
 pub use input::read_file;
 pub use input::read_named;
+pub use planners::Planner;
+pub use planners::plan;

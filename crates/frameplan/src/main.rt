@@ -1,27 +1,13 @@
 // frameplan [memheft|memminmin|heft|minmin]: reads a board sheet from standard input and prints its timetable, by MemHEFT or the planner
 // named.
-ghost use mathlib.Core.Path.{_≡_};
-ghost use Prim.Native.Nat.{_≤_};
-ghost use lib.ListN.{length};
-ghost use Rattle.rules.specs.Limits.{maxText};
-ghost use Rattle.rules.specs.Calls.{plan as rules-plan};
-ghost use Rattle.plan_text.specs.Answers.{asAnswer};
-ghost use Rattle.console.specs.LongEnough.{LongEnough};
-ghost use Rattle.frameplan.specs.Planners.{asPlanner};
 use console::Input;
+use console::Planner;
+use console::plan;
 use console::print_answer;
 use console::read_descriptor;
 use console::report;
-use frames::Answer;
 use libc::STDERR_FILENO;
 use libc::STDIN_FILENO;
-
-enum Planner {
-    MemHeft,
-    MemMinMin,
-    Heft,
-    MinMin,
-}
 
 // What the arguments name.
 enum Named {
@@ -51,20 +37,6 @@ fn planner_named() -> Named {
         return Named::Known(Planner::MinMin);
     }
     Named::Unknown
-}
-
-// The planner on a sheet. A buffer as long as a text may be is never too short (rules' promise `PlansShort`), so 31 is not its answer.
-fn plan(planner: Planner, sheet: &[u8], out: &mut [u8]) -> Answer
-    requires { ⌜ maxText ≤ length (now out) ⌝ }
-    ensures { λ r. ⌜ asAnswer r (now (out .exit)) ≡ rules-plan (asPlanner planner) (now (sheet .entry)) (now (out .entry)) ⌝ }
-    ensures { λ r. ⌜ LongEnough r (now (out .exit)) ⌝ }
-{
-    match planner {
-        Planner::MemHeft => frames::mem_heft(sheet, out),
-        Planner::MemMinMin => frames::mem_min_min(sheet, out),
-        Planner::Heft => frames::heft(sheet, out),
-        Planner::MinMin => frames::min_min(sheet, out),
-    }
 }
 
 // Prints the planner's answer. Returns whether all was written.

@@ -1,4 +1,6 @@
-// Both planners on the sheets of data/, those with relays last, and a buffer one byte too short.
+// Both memory-aware planners on the sheets of data/, those with relays last, and a buffer one byte too short.
+use console::Planner;
+use console::plan;
 use console::print_answer;
 use console::print_number;
 use frames::Answer;
@@ -14,17 +16,10 @@ fn print_head(name: &[u8], planner: &[u8], a: Answer) {
     io::write_all(STDOUT_FILENO, b"\n");
 }
 
-fn show_mem_heft(name: &[u8], sheet: &[u8]) {
+fn show_plan<'a>(name: &'a [u8], label: &'a [u8], planner: Planner, sheet: &'a [u8]) {
     let mut out = io::large_buffer();
-    let a = frames::mem_heft(sheet, &mut out);
-    print_head(name, b", MemHEFT:", a);
-    print_answer(a, &out);
-}
-
-fn show_mem_min_min(name: &[u8], sheet: &[u8]) {
-    let mut out = io::large_buffer();
-    let a = frames::mem_min_min(sheet, &mut out);
-    print_head(name, b", MemMinMin:", a);
+    let a = plan(planner, sheet, &mut out);
+    print_head(name, label, a);
     print_answer(a, &out);
 }
 
@@ -38,8 +33,8 @@ fn show(name: &[u8]) {
     let mut sheet = io::large_buffer();
     let n = io::read_full(fd, &mut sheet);
     libc::close(fd);
-    show_mem_heft(name, &sheet[..n]);
-    show_mem_min_min(name, &sheet[..n]);
+    show_plan(name, b", MemHEFT:", Planner::MemHeft, &sheet[..n]);
+    show_plan(name, b", MemMinMin:", Planner::MemMinMin, &sheet[..n]);
 }
 
 // The course example takes 76 bytes; 75 are lent, and stay as they were.

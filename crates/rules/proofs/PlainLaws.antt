@@ -1,5 +1,5 @@
 -- Where memory is ample, starts 3 and 4 delay no ready task: a planner does what its plain parent does.
-use Prim.Native.Nat.{ℕ, zero, suc, _+_, _*_, _≤_, max}
+use Prim.Native.Nat.{ℕ, zero, suc, _+_, _*_, _≤_}
 use mathlib.Core.Bool.{true}
 use mathlib.Core.List.{List, [], _∷_}
 use mathlib.Core.Option.{some}
@@ -7,7 +7,7 @@ use mathlib.Core.Path.{_≡_, refl, sym, _∙_, ap}
 use native.Mathlib.Omega.{arith}
 use lib.Dec.{leb}
 use Rattle.rules.specs.Model.{Colour, blue, red, Instance, taskCount, fileCount, moveTimeAt, Schedule}
-use Rattle.rules.specs.Scheduling.{Partial, ready, reads, crossing, crossingSize, outputSize, crossingTime, arrival, processorStart, inputStart, freeFrom, aware, plain, memoryStart, earliestStart, assign, finishOn, Choice, nothing, choose, earlier, bothColours, byWeight, firstThatFits, earliestBelow, Planner, heft, minMin, parentOf, roundOf, complete, stuck, rounds, outcome}
+use Rattle.rules.specs.Scheduling.{Partial, ready, reads, crossing, crossingSize, outputSize, crossingTime, arrival, inputStart, freeFrom, aware, plain, memoryStart, earliestStart, assign, finishOn, Choice, nothing, choose, earlier, bothColours, byWeight, firstThatFits, earliestBelow, Planner, heft, minMin, parentOf, roundOf, complete, stuck, rounds, outcome}
 use Rattle.rules.specs.Promises.{WellFormed, Ample}
 use Rattle.rules.specs.PlainPlanners.{PlainStart}
 use Rattle.rules.proofs.Tests.{split, and-true}

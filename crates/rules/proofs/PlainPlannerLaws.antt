@@ -1,23 +1,22 @@
 -- Order 4, the calls: what a plain planner answers, what the marker says to what was written, and ample memory.
-use Prim.Native.Nat.{ℕ, zero, suc, _+_, _*_, _≤_, _<_}
-use mathlib.Core.Bool.{true, false, cond}
-use mathlib.Core.List.{List, [], _∷_}
+use Prim.Native.Nat.{ℕ, _≤_, _<_}
+use mathlib.Core.Bool.{true}
+use mathlib.Core.List.{List}
 use mathlib.Core.Logic.{_⊎_, inl, inr}
 use mathlib.Core.Path.{_≡_, refl, sym, ap, _∙_}
 use native.Mathlib.Omega.{arith}
 use lib.Dec.{leb}
 use lib.ListN.{length, take}
 use borrow.Author.Tests.{leb-true, leb-false, le-leb, lt-leb}
-use Rattle.rules.specs.Model.{Colour, Instance, taskCount, fileCount, sizeAt, Schedule}
-use Rattle.rules.specs.Residency.{isHeld, held}
+use Rattle.rules.specs.Model.{Instance, Schedule}
 use Rattle.rules.specs.Validity.{Apart, AllOnTime, WithinLimits, Valid, Verdict, acceptedWith, refusedBy, trueClaim, judge}
-use Rattle.rules.specs.Scheduling.{plain, Planner, heft, parentOf}
+use Rattle.rules.specs.Scheduling.{plain, Planner, heft}
 use Rattle.rules.specs.Text.{tooLong, malformed, outOfRange, undue}
-use Rattle.rules.specs.InstanceText.{accepted, readInstance}
+use Rattle.rules.specs.InstanceText.{accepted}
 use Rattle.rules.specs.Calls.{mark, Answer, planText, overwritten, written, plan}
-use Rattle.rules.specs.Promises.{WellFormed, Spellable, Written, Ample, trialsOf}
+use Rattle.rules.specs.Promises.{Spellable, Ample}
 use Rattle.rules.specs.CallsExact.{Planned, byText, by21, by31, by0 as succeeded}
-use Rattle.rules.specs.PlainPlanners.{HeftTrials, PlannedPlainly, PlainExact, NeverStuck, MarkedBack, PlanMarked, PlainParent, AmpleReadBack}
+use Rattle.rules.specs.PlainPlanners.{HeftTrials, PlainExact, NeverStuck, MarkedBack, PlanMarked, PlainParent, AmpleReadBack}
 use Rattle.rules.proofs.Tests.{split}
 use Rattle.rules.proofs.SheetLaws.{sheetExact}
 use Rattle.rules.proofs.ResidencyLaws.{held-under}

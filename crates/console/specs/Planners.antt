@@ -1,7 +1,7 @@
--- The planner that an argument names, as the rules have it.
+-- A planner by its name, as the rules have it.
 use Rattle.rules.specs.Scheduling as Rules
-use Rattle.frameplan.specs.declared.Planner.{Planner}
-use Rattle.frameplan.specs.declared.Planner.the-variants.{MemHeft, MemMinMin, Heft, MinMin}
+use Rattle.console.specs.declared.planners.Planner.{Planner}
+use Rattle.console.specs.declared.planners.Planner.the-variants.{MemHeft, MemMinMin, Heft, MinMin}
 
 abbrev pub asPlanner : Planner → Rules.Planner
 asPlanner MemHeft = Rules.memHeft

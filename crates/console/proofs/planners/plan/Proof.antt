@@ -1,10 +1,10 @@
 -- `plan` meets its contract: each arm is its planner, and the buffer is long enough for it.
 use Rattle.rules.specs.Scheduling.{plain, heft, minMin, memHeft, memMinMin}
 use Rattle.console.proofs.LongEnoughLaws.{long-enough}
-use Rattle.frameplan.proofs.NamedLaws.{by-named}
+use Rattle.console.proofs.NamedLaws.{by-named}
 use borrow.Author.Needs.{needs}
-use Rattle.frameplan.proofs.plan.Statement.{statement}
-use Rattle.frameplan.proofs.plan.Tie as tie
+use Rattle.console.proofs.planners.plan.Statement.{statement}
+use Rattle.console.proofs.planners.plan.Tie as tie
 
 enum-told : tie.Need-enum-told
 enum-told c = search needs

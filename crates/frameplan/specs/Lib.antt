@@ -1,2 +1,0 @@
--- What the contracts of this crate cite beside the rules' own definitions.
-pub mod Planners
