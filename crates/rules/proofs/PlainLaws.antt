@@ -86,7 +86,10 @@ module _ (I : Instance) (W : WellFormed I) (ample : Ample I) where
 
     memory-ample : (c : Colour) → memoryStart aware I (Q .schedule) i c ≡ some (crossingTime I (Q .schedule) i c)
     unfolding memoryStart
-    memory-ample c = rw (free-at-once c (crossingSize I (Q .schedule) i c + outputSize I i) (omega arith), free-at-once c (crossingSize I (Q .schedule) i c) (omega arith)) (ap some (omega arith))
+    memory-ample c =
+        let running = free-at-once c (crossingSize I (Q .schedule) i c + outputSize I i) (omega arith) in
+        let moving = free-at-once c (crossingSize I (Q .schedule) i c) (omega arith) in
+        rw (running, moving) (ap some (omega arith))
 
     pub start-same : (c : Colour) → earliestStart aware I Q i c ≡ earliestStart plain I Q i c
     unfolding earliestStart
@@ -126,7 +129,8 @@ module _ (I : Instance) (W : WellFormed I) (ample : Ample I) where
 
       by : (x : Choice) → roundOf R I Q .choice ≡ x
           → ((i : ℕ) (c : Colour) (s : ℕ)
-          → rounds R I left (assign I Q i c s) (trials + roundOf R I Q .trials) ≡ rounds (parentOf R) I left (assign I Q i c s) (trials + roundOf R I Q .trials))
+          → rounds R I left (assign I Q i c s) (trials + roundOf R I Q .trials)
+          ≡ rounds (parentOf R) I left (assign I Q i c s) (trials + roundOf R I Q .trials))
           → rounds R I (suc left) Q trials ≡ rounds (parentOf R) I (suc left) Q trials
       by nothing q ih = rounds-stuck R I left Q trials q ∙ rw e (sym (rounds-stuck (parentOf R) I left Q trials (rw e at q)))
       by (choose i c s) q ih = rounds-place R I left Q trials i c s q ∙ ih i c s ∙ rw e (sym (rounds-place (parentOf R) I left Q trials i c s (rw e at q)))

@@ -90,7 +90,8 @@ module _ (m : Memory) (I : Instance) (Q : Partial) where
       (λ r. rw (first-tries i is r) (on (bothColours m I Q i) refl (first-within is)))
       (λ r. rw (first-skips i is r) (rest-within i is (firstThatFits m I Q is .choice) (first-within is)))
     where
-      on : (x : Choice) → bothColours m I Q i ≡ x → Within m I is (firstThatFits m I Q is .choice) → Within m I (i ∷ is) (orRest x (firstThatFits m I Q is) .choice)
+      on : (x : Choice) → bothColours m I Q i ≡ x → Within m I is (firstThatFits m I Q is .choice)
+          → Within m I (i ∷ is) (orRest x (firstThatFits m I Q is) .choice)
       on nothing e h = rest-within i is (firstThatFits m I Q is .choice) h
       on (choose j c s) e h = List·Memᴰ·head (both-task m I Q i j c s e)
 

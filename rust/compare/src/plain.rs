@@ -307,7 +307,10 @@ impl Counts {
     pub fn print(&self) {
         for (plain, aware, row) in self.named() {
             println!(
-                "{plain}: {} plans, {} accepted, refused by 17: {}, of these for what a relay reads: {}; {aware} on these sheets: {}; with limits of the sum of all sizes or more: {} calls, no difference; of 0: {} calls of {plain}, no difference; of the sum, less one block in a memory: {}; of the plan's peaks: {}; plans refused by 17 with one block less than a peak: {}",
+                "{plain}: {} plans, {} accepted, refused by 17: {}, of these for what a relay reads: {}; {aware} on these sheets: {}; \
+                 with limits of the sum of all sizes or more: {} calls, no difference; of 0: {} calls of {plain}, no difference; \
+                 of the sum, less one block in a memory: {}; of the plan's peaks: {}; \
+                 plans refused by 17 with one block less than a peak: {}",
                 row.plans,
                 row.accepted,
                 row.over,

@@ -80,7 +80,8 @@ fn later_at_peaks() -> Worked {
     };
     worked(
         "limits of the peaks, a longer span",
-        "(board (blue 1 3) (red 1 3))\n(task 1 1 1)\n(task 2 1 2)\n(task 3 2 1)\n(task 4 1 1)\n(file 1 3 1 1)\n(file 1 4 1 1)\n(file 2 4 1 2)\n(file 3 4 1 2)\n",
+        "(board (blue 1 3) (red 1 3))\n(task 1 1 1)\n(task 2 1 2)\n(task 3 2 1)\n(task 4 1 1)\n\
+         (file 1 3 1 1)\n(file 1 4 1 1)\n(file 2 4 1 2)\n(file 3 4 1 2)\n",
         [(8, plain()), (8, aware()), (12, plain()), (12, aware())],
     )
 }
@@ -92,7 +93,8 @@ fn stuck_at_peaks() -> Worked {
     };
     worked(
         "limits of the peaks, stuck",
-        "(board (blue 1 3) (red 1 2))\n(task 1 1 1)\n(task 2 1 1)\n(task 3 1 1)\n(task 4 1 1)\n(task 5 1 1)\n(file 1 2 1 1)\n(file 1 4 1 1)\n(file 2 3 1 1)\n(file 3 5 2 1)\n(file 4 5 1 1)\n",
+        "(board (blue 1 3) (red 1 2))\n(task 1 1 1)\n(task 2 1 1)\n(task 3 1 1)\n(task 4 1 1)\n(task 5 1 1)\n\
+         (file 1 2 1 1)\n(file 1 4 1 1)\n(file 2 3 1 1)\n(file 3 5 2 1)\n(file 4 5 1 1)\n",
         [(10, plain()), (10, Stuck(3)), (14, plain()), (12, Stuck(3))],
     )
 }

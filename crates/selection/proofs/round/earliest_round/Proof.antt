@@ -23,11 +23,12 @@ abbrev μ-loop : tie.MeasureT-loop
 
 loop-holds : tie.Need-loop-holds Inv-loop μ-loop
 loop-holds c =
-    let a = c .args in (
+    let a = c .args in
+    let m = asMemory (a .memory) in (
       omega arith,
       omega arith,
-      sym (below-choice (asMemory (a .memory)) (a .shape) (jobOf (a .job .now)) (entriesOf (a .schedule .now)) (a .last .now)),
-      sym (below-trials (asMemory (a .memory)) (a .shape) (jobOf (a .job .now)) (entriesOf (a .schedule .now)) (a .last .now)),
+      sym (below-choice m (a .shape) (jobOf (a .job .now)) (entriesOf (a .schedule .now)) (a .last .now)),
+      sym (below-trials m (a .shape) (jobOf (a .job .now)) (entriesOf (a .schedule .now)) (a .last .now)),
       tt,
     )
 
@@ -48,15 +49,16 @@ loop-less c = search needs
 
 loop-again : tie.Need-loop-again Inv-loop μ-loop
 loop-again c =
-    let a = c .before .before .before .before .before .before .args in (
+    let a = c .before .before .before .before .before .before .args in
+    let m = asMemory (a .memory) in (
       omega arith,
       omega arith,
-      choice-turn (asMemory (a .memory)) (a .shape) (jobOf (a .job .now)) (entriesOf (a .schedule .now)) (a .last .now) (c .before .before .before .before .before .loop .i)
+      choice-turn m (a .shape) (jobOf (a .job .now)) (entriesOf (a .schedule .now)) (a .last .now) (c .before .before .before .before .before .loop .i)
           (c .before .before .try-task .result) (c .before .before .try-task .ensures .0) (c .before .before .before .before .before .loop .choice)
           (c .before .earlier .result) (c .before .before .before .before .before .loop .inv .2) (c .before .earlier .ensures .0),
       omega (
         arith,
-        trials-turn (asMemory (a .memory)) (a .shape) (jobOf (a .job .now)) (entriesOf (a .schedule .now)) (a .last .now) (c .before .before .before .before .before .loop .i)
+        trials-turn m (a .shape) (jobOf (a .job .now)) (entriesOf (a .schedule .now)) (a .last .now) (c .before .before .before .before .before .loop .i)
             (c .before .before .try-task .result) (c .before .before .try-task .ensures .0),
       ),
       c .before .earlier .ensures .1,
@@ -64,8 +66,9 @@ loop-again c =
 
 returns : tie.Need-returns Inv-loop μ-loop
 returns c =
-    let a = c .before .before .before .args in (
-      below-total (asMemory (a .memory)) (a .shape) (jobOf (a .job .now)) (entriesOf (a .schedule .now)) (a .last .now) {n = c .before .before .loop .i} (omega arith)
+    let a = c .before .before .before .args in
+    let m = asMemory (a .memory) in (
+      below-total m (a .shape) (jobOf (a .job .now)) (entriesOf (a .schedule .now)) (a .last .now) {n = c .before .before .loop .i} (omega arith)
           (c .before .before .loop .choice) (c .before .before .loop .inv .2) (c .before .before .loop .inv .3),
       (c .before .before .loop .inv .4, omega arith),
     )

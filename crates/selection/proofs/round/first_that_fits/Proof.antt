@@ -17,7 +17,9 @@ abbrev μ-loop : tie.MeasureT-loop
 
 loop-holds : tie.Need-loop-holds Inv-loop μ-loop
 loop-holds c =
-    let a = c .args in (omega arith, omega arith, left-all (asMemory (a .memory)) (a .shape) (jobOf (a .job .now)) (entriesOf (a .schedule .now)) (a .last .now) (a .order .now))
+    let a = c .args in
+    let m = asMemory (a .memory) in
+    (omega arith, omega arith, left-all m (a .shape) (jobOf (a .job .now)) (entriesOf (a .schedule .now)) (a .last .now) (a .order .now))
 
 mul-try-task : tie.Need-mul-try-task Inv-loop μ-loop
 mul-try-task c = search needs
@@ -37,8 +39,9 @@ is-chosen-requires c κs = search needs
 
 returns : tie.Need-returns Inv-loop μ-loop
 returns c =
-    let a = c .before .before .before .before .before .before .before .before .args in (
-      left-taken (asMemory (a .memory)) (a .shape) (jobOf (a .job .now)) (entriesOf (a .schedule .now)) (a .last .now) (a .order .now)
+    let a = c .before .before .before .before .before .before .before .before .args in
+    let m = asMemory (a .memory) in (
+      left-taken m (a .shape) (jobOf (a .job .now)) (entriesOf (a .schedule .now)) (a .last .now) (a .order .now)
           (c .before .before .before .before .before .before .before .loop .trials) (c .before .before .before .before .before .if1 .taken)
           (c .before .before .before .before .before .before .before .loop .inv .2) (c .before .before .before .try-task .result)
           (c .before .before .before .try-task .ensures .0) (c .before .is-chosen .ensures) (c .if2 .taken),
@@ -53,10 +56,11 @@ loop-less c = search needs
 
 loop-again : tie.Need-loop-again Inv-loop μ-loop
 loop-again c =
-    let a = c .before .before .before .before .before .before .before .before .args in (
+    let a = c .before .before .before .before .before .before .before .before .args in
+    let m = asMemory (a .memory) in (
       omega arith,
       omega arith,
-      left-next (asMemory (a .memory)) (a .shape) (jobOf (a .job .now)) (entriesOf (a .schedule .now)) (a .last .now) (a .order .now)
+      left-next m (a .shape) (jobOf (a .job .now)) (entriesOf (a .schedule .now)) (a .last .now) (a .order .now)
           (c .before .before .before .before .before .before .before .loop .trials) (c .before .before .before .before .before .if1 .taken)
           (c .before .before .before .before .before .before .before .loop .inv .2) (c .before .before .before .try-task .result)
           (c .before .before .before .try-task .ensures .0) (c .before .is-chosen .ensures) (c .if2 .left),
@@ -64,8 +68,9 @@ loop-again c =
 
 returns-2 : tie.Need-returns-2 Inv-loop μ-loop
 returns-2 c =
-    let a = c .before .before .before .args in (
-      left-none (asMemory (a .memory)) (a .shape) (jobOf (a .job .now)) (entriesOf (a .schedule .now)) (a .last .now) (a .order .now) {i = c .before .before .loop .i}
+    let a = c .before .before .before .args in
+    let m = asMemory (a .memory) in (
+      left-none m (a .shape) (jobOf (a .job .now)) (entriesOf (a .schedule .now)) (a .last .now) (a .order .now) {i = c .before .before .loop .i}
           (c .before .before .loop .inv .2) (omega arith),
       (tt, omega arith),
     )

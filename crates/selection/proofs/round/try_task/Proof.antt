@@ -15,16 +15,18 @@ both-colours-requires c κs = search needs
 
 returns : tie.Need-returns
 returns c =
-    let a = c .before .before .before .args in (
-      one-tried (asMemory (a .memory)) (a .shape) (jobOf (a .job .now)) (entriesOf (a .schedule .now)) (a .last .now) (a .task) (c .before .before .ready .ensures)
+    let a = c .before .before .before .args in
+    let m = asMemory (a .memory) in (
+      one-tried m (a .shape) (jobOf (a .job .now)) (entriesOf (a .schedule .now)) (a .last .now) (a .task) (c .before .before .ready .ensures)
           (c .before .if1 .taken) (c .both-colours .result) (c .both-colours .ensures .0),
       (c .both-colours .ensures .1, omega arith),
     )
 
 returns-2 : tie.Need-returns-2
 returns-2 c =
-    let a = c .before .before .args in (
-      one-left (asMemory (a .memory)) (a .shape) (jobOf (a .job .now)) (entriesOf (a .schedule .now)) (a .last .now) (a .task) (c .before .ready .ensures) (c .if1 .left),
+    let a = c .before .before .args in
+    let m = asMemory (a .memory) in (
+      one-left m (a .shape) (jobOf (a .job .now)) (entriesOf (a .schedule .now)) (a .last .now) (a .task) (c .before .ready .ensures) (c .if1 .left),
       (tt, omega arith),
     )
 

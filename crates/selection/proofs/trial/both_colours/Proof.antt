@@ -25,8 +25,9 @@ earlier-requires c κs =
 
 returns : tie.Need-returns
 returns c =
-    let a = c .before .before .before .before .before .args in (
-      both-at (asMemory (a .memory)) (instanceFrom (a .shape) (jobOf (a .job .now))) (partialFrom (a .shape) (entriesOf (a .schedule .now)) (a .last .now)) (a .task)
+    let a = c .before .before .before .before .before .args in
+    let m = asMemory (a .memory) in (
+      both-at m (instanceFrom (a .shape) (jobOf (a .job .now))) (partialFrom (a .shape) (entriesOf (a .schedule .now)) (a .last .now)) (a .task)
           (c .before .before .before .before .earliest-start .result) (c .before .before .before .earliest-start2 .result)
           (c .before .before .tried .result) (c .before .tried2 .result) (c .earlier .result)
           (c .before .before .before .before .earliest-start .ensures .0) (c .before .before .before .earliest-start2 .ensures .0)
