@@ -1,5 +1,6 @@
 // What a file costs in the four cases of its maker's and its reader's colour, blue-blue, red-red, blue-red and red-blue (Order 2).
 // The file that task 1 makes and task 2 reads has size 3 and move time 5 throughout: F 3, C 5.
+use console::Planner;
 use console::print_answer;
 use console::print_number;
 use console::print_verdict;
@@ -284,7 +285,7 @@ fn another_file_at_the_reader() {
 // Prints MemHEFT's timetable of a sheet.
 fn print_plan(sheet: &[u8]) {
     let mut out = io::large_buffer();
-    let a = frames::mem_heft(sheet, &mut out);
+    let a = console::plan(Planner::MemHeft, sheet, &mut out);
     print_answer(a, &out);
 }
 

@@ -46,6 +46,16 @@ pub fn print_marks<'a>(sheet: &'a [u8], paper: &'a [u8]) -> bool {
     write_escaped(STDOUT_FILENO, line) && io::write_all(STDOUT_FILENO, b"\n")
 }
 
+// What is shown, and number, place and trials of a planner's answer.
+pub fn print_numbers<'a>(name: &'a [u8], planner: &'a [u8], a: Answer) {
+    io::write_all(STDOUT_FILENO, name);
+    io::write_all(STDOUT_FILENO, planner);
+    print_number(a.number);
+    print_number(a.place);
+    print_number(a.trials);
+    io::write_all(STDOUT_FILENO, b"\n");
+}
+
 // The timetable that a planner wrote, or its refusal.
 pub fn print_answer(a: Answer, out: &[u8]) -> bool
     requires { ⌜ LongEnough a (now out) ⌝ }

@@ -8,6 +8,7 @@ mod planners;
 pub use answers::print_answer;
 pub use answers::print_marks;
 pub use answers::print_number;
+pub use answers::print_numbers;
 pub use answers::print_verdict;
 pub use errors::report;
 pub use escape::write_escaped;

@@ -49,7 +49,7 @@ pub record PlannerDemands (R : Planner) (sheet buffer : List ℕ) (a : Answer) :
   -- what was written carries a true claim; read back it is accepted exactly if it keeps the limits, and refused by 17 exactly at the first instant over
   -- one, by nothing else. Not: one line only; a claim made of the limits. Alone it is met by a planner that never succeeds
   pub marked : a .number ≡ 0 → MarkedBack R sheet buffer a
-  -- with limits of at least all file sizes and a buffer as long as the timetable it succeeds. Not: stuck on each sheet
+  -- where memory is ample and the buffer as long as the timetable it succeeds. Not: stuck on each sheet
   pub ample : (I : Instance) → readInstance sheet ≡ accepted I → Ample I
       → (C : Completes R sheet I) × (length (planText I (C .schedule)) ≤ length buffer → a .number ≡ 0)
   -- for an accepted sheet the trials are those of the rule, also after 21 and 31, and at most n × (n + 1). Not: a made-up count
@@ -60,7 +60,7 @@ pub record AwareDemands (R : Planner) (sheet buffer : List ℕ) (a : Answer) : T
   -- what was written is accepted when read back, with the span and peaks it claims. Not: a plan over a limit. Alone it is met by a planner that never
   -- succeeds
   pub readBack : a .number ≡ 0 → AcceptedBack R sheet buffer a
-  -- with limits of at least all file sizes the whole answer, trials and every byte too, is that of its plain parent. Not: a task that waits for memory
+  -- where memory is ample the whole answer, trials and every byte too, is that of its plain parent. Not: a task that waits for memory
   -- while all files fit
   pub parent : (I : Instance) → readInstance sheet ≡ accepted I → Ample I → a ≡ plan (parentOf R) sheet buffer
 
@@ -71,7 +71,7 @@ pub record PlainDemands (R : Planner) (sheet buffer : List ℕ) (a : Answer) : T
   -- for an accepted sheet, whatever the limits: success with the text written exactly if it fits the buffer, else 31 with the bytes needed. Not: every
   -- sheet refused
   pub plainly : (I : Instance) → readInstance sheet ≡ accepted I → PlannedPlainly R I buffer a
-  -- with limits of at least all file sizes what was written is accepted when read back. Not: 17 while all files fit
+  -- where memory is ample what was written is accepted when read back. Not: 17 while all files fit
   pub ampleBack : (I : Instance) → readInstance sheet ≡ accepted I → Ample I → a .number ≡ 0 → AcceptedBack R sheet buffer a
 
 -- HEFT's trials: two for each task of an accepted sheet, also after 31. Not: every ready task tried

@@ -1,4 +1,4 @@
-// Timetables marked: examples e to m of document 01, papers that neither planner would make, and each refusal.
+// Timetables marked: examples e to m of document 01, papers that neither MemHEFT nor MemMinMin would make, and each refusal.
 use console::print_number;
 use libc::STDOUT_FILENO;
 
@@ -71,7 +71,7 @@ fn examples() {
     );
 }
 
-// Valid, though neither planner would make them.
+// Valid, though neither MemHEFT nor MemMinMin would make them.
 fn unusual() {
     show(
         b"idle gaps",

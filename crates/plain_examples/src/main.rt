@@ -5,21 +5,11 @@ use console::Input;
 use console::Planner;
 use console::plan;
 use console::print_answer;
-use console::print_number;
+use console::print_numbers;
 use console::print_verdict;
 use console::read_file;
 use frames::Answer;
 use libc::STDOUT_FILENO;
-
-// What is shown, and the answer's numbers.
-fn print_head<'a>(name: &'a [u8], label: &'a [u8], a: Answer) {
-    io::write_all(STDOUT_FILENO, name);
-    io::write_all(STDOUT_FILENO, label);
-    print_number(a.number);
-    print_number(a.place);
-    print_number(a.trials);
-    io::write_all(STDOUT_FILENO, b"\n");
-}
 
 // How the timetable is marked that an answer says was written.
 fn print_mark<'a>(sheet: &'a [u8], a: Answer, out: &'a [u8])
@@ -38,7 +28,7 @@ fn print_mark<'a>(sheet: &'a [u8], a: Answer, out: &'a [u8])
 fn show_plan<'a>(name: &'a [u8], label: &'a [u8], planner: Planner, sheet: &'a [u8]) {
     let mut out = io::large_buffer();
     let a = plan(planner, sheet, &mut out);
-    print_head(name, label, a);
+    print_numbers(name, label, a);
     print_answer(a, &out);
     print_mark(sheet, a, &out);
 }
@@ -66,7 +56,7 @@ fn show_short() {
         b"(board (blue 1 6) (red 1 6))\n(task 1 4 2)\n(task 2 3 5)\n(task 3 2 6)\n(file 1 2 2 1)\n(file 1 3 3 2)\n";
     let mut out = [b'.'; 75];
     let a = frames::heft(sheet, &mut out);
-    print_head(b"75 bytes", b", HEFT:", a);
+    print_numbers(b"75 bytes", b", HEFT:", a);
     io::write_all(STDOUT_FILENO, &out);
     io::write_all(STDOUT_FILENO, b"\n");
 }
@@ -98,7 +88,7 @@ fn main() {
     show(b"relay.sheet");
     // a relay last: over the limit at the span
     show(b"relay_last.sheet");
-    // a refused sheet: no planner is tried
+    // a refused sheet: each planner refuses it, with 0 trials
     show(b"refused_line.sheet");
     show_short();
 }

@@ -2,28 +2,17 @@
 use console::Planner;
 use console::plan;
 use console::print_answer;
-use console::print_number;
-use frames::Answer;
+use console::print_numbers;
 use libc::STDOUT_FILENO;
-
-// What is shown, and the answer's numbers.
-fn print_head(name: &[u8], planner: &[u8], a: Answer) {
-    io::write_all(STDOUT_FILENO, name);
-    io::write_all(STDOUT_FILENO, planner);
-    print_number(a.number);
-    print_number(a.place);
-    print_number(a.trials);
-    io::write_all(STDOUT_FILENO, b"\n");
-}
 
 fn show_plan<'a>(name: &'a [u8], label: &'a [u8], planner: Planner, sheet: &'a [u8]) {
     let mut out = io::large_buffer();
     let a = plan(planner, sheet, &mut out);
-    print_head(name, label, a);
+    print_numbers(name, label, a);
     print_answer(a, &out);
 }
 
-// Both planners on the sheet of a file.
+// Both memory-aware planners on the sheet of a file.
 fn show(name: &[u8]) {
     let fd = os::open_read(name);
     if fd < 0 {
@@ -43,7 +32,7 @@ fn show_short() {
         b"(board (blue 1 6) (red 1 6))\n(task 1 4 2)\n(task 2 3 5)\n(task 3 2 6)\n(file 1 2 2 1)\n(file 1 3 3 2)\n";
     let mut out = [b'.'; 75];
     let a = frames::mem_heft(sheet, &mut out);
-    print_head(b"75 bytes", b", MemHEFT:", a);
+    print_numbers(b"75 bytes", b", MemHEFT:", a);
     io::write_all(STDOUT_FILENO, &out);
     io::write_all(STDOUT_FILENO, b"\n");
 }

@@ -1,3 +1,3 @@
-// MemHEFT's list of tasks: the order in which a round tries them.
+// HEFT's list of tasks: the order in which a round tries them.
 pub mod list;
 pub mod weight;

@@ -1,4 +1,4 @@
--- Where memory is ample, starts 3 and 4 delay no ready task: a planner does what its plain parent does.
+-- Order 4, the rounds: a plain planner's starts and HEFT's trials; and that where memory is ample a planner does what its plain parent does.
 use Prim.Native.Nat.{ℕ, zero, suc, _+_, _*_, _≤_}
 use mathlib.Core.Bool.{true}
 use mathlib.Core.List.{List, [], _∷_}
@@ -14,14 +14,13 @@ use Rattle.rules.proofs.Tests.{split, and-true}
 use Rattle.rules.proofs.CountLaws.{where-bound, where-under}
 use Rattle.rules.proofs.ResidencyLaws.{freeFromLaw}
 use Rattle.rules.proofs.ReadyLaws.{sizes-suffice}
-use Rattle.rules.proofs.StartLaws.{none-asked}
 use Rattle.rules.proofs.TurnLaws.{rounds-stuck, rounds-place, rounds-done, outcome-is}
 
 -- ---- a plain planner's task fits on each colour
 
 pub plainStart : PlainStart
-unfolding earliestStart
-plainStart I Q i c = rw (none-asked I (Q .schedule) i c) (ap some (omega arith))
+unfolding earliestStart memoryStart
+plainStart I Q i c = ap some (omega arith)
 
 -- ---- so HEFT makes two trials in each round that places a task
 
@@ -63,8 +62,8 @@ rounds-two I (suc left) Q trials P total o =
         let z : _≡_ {A = ℕ} 0 1 = cc in absurd (omega arith)
     by (choose i c s) e ih = omega (arith, round-two I Q i c s e, ih i c s (sym (rounds-place (heft plain) I left Q trials i c s e) ∙ o))
 
-pub heft-trials : (I : Instance) (P : Schedule) (trials : ℕ) → outcome (heft plain) I ≡ complete P trials → trials ≡ 2 * taskCount I
-heft-trials I P trials o = omega (arith, rounds-two I (taskCount I) _ 0 P trials (sym (outcome-is (heft plain) I) ∙ o))
+pub completed-trials : (I : Instance) (P : Schedule) (trials : ℕ) → outcome (heft plain) I ≡ complete P trials → trials ≡ 2 * taskCount I
+completed-trials I P trials o = omega (arith, rounds-two I (taskCount I) _ 0 P trials (sym (outcome-is (heft plain) I) ∙ o))
 
 -- ---- the greatest move time is within start 2
 
@@ -93,7 +92,7 @@ module _ (I : Instance) (W : WellFormed I) (ample : Ample I) where
 
     pub start-same : (c : Colour) → earliestStart aware I Q i c ≡ earliestStart plain I Q i c
     unfolding earliestStart
-    start-same c = rw (memory-ample c, none-asked I (Q .schedule) i c) (ap some (omega (arith, time-within I Q i c)))
+    start-same c = rw (memory-ample c, plainStart I Q i c) (ap some (omega (arith, time-within I Q i c)))
 
     both-same : bothColours aware I Q i ≡ bothColours plain I Q i
     unfolding bothColours

@@ -10,10 +10,10 @@ use lib.ListN.{length, take}
 use borrow.Author.Tests.{leb-true, leb-false, le-leb, lt-leb}
 use Rattle.rules.specs.Model.{Instance, Schedule}
 use Rattle.rules.specs.Validity.{Apart, AllOnTime, WithinLimits, Valid, Verdict, acceptedWith, refusedBy, trueClaim, judge}
-use Rattle.rules.specs.Scheduling.{plain, Planner, heft}
+use Rattle.rules.specs.Scheduling.{plain, Planner, heft, complete, outcome}
 use Rattle.rules.specs.Text.{tooLong, malformed, outOfRange, undue}
-use Rattle.rules.specs.InstanceText.{accepted}
-use Rattle.rules.specs.Calls.{mark, Answer, planText, overwritten, written, plan}
+use Rattle.rules.specs.InstanceText.{accepted, readInstance}
+use Rattle.rules.specs.Calls.{mark, Answer, planText, written, plan}
 use Rattle.rules.specs.Promises.{Spellable, Ample}
 use Rattle.rules.specs.CallsExact.{Planned, byText, by21, by31, by0 as succeeded}
 use Rattle.rules.specs.PlainPlanners.{HeftTrials, PlainExact, NeverStuck, MarkedBack, PlanMarked, PlainParent, AmpleReadBack}
@@ -26,58 +26,44 @@ use Rattle.rules.proofs.MarkerLaws.{mark-judges}
 use Rattle.rules.proofs.ValidLaws.{judge-exact}
 use Rattle.rules.proofs.PlaceLaws.{placeLaw}
 use Rattle.rules.proofs.OutcomeLaws.{completed-apart, completed-onTime, completed-claim, completed-spellable, completed-valid}
-use Rattle.rules.proofs.PlainLaws.{heft-trials, outcome-same}
+use Rattle.rules.proofs.PlainLaws.{completed-trials, outcome-same}
 use Rattle.rules.proofs.AmpleLaws.{plain-completes}
 use Rattle.rules.proofs.CallsExactLaws.{planCall}
-use Rattle.rules.proofs.PlannerLaws.{plan-complete, written-text, Succeeds, succeeds, accepted-back}
+use Rattle.rules.proofs.PlannerLaws.{plan-fits, plan-short, written-text, Succeeds, succeeds, accepted-back}
 
 -- ---- the answer of a plain planner
 
--- a text written, or too long for its buffer
-module _ (text buffer : List ℕ) (trials : ℕ) where
-  abbrev success : Answer
-  success = record { number = 0; place = length text; trials = trials; buffer = overwritten text buffer }
+module _ (R : Planner) (sheet buffer : List ℕ) (I : Instance) (e : readInstance sheet ≡ accepted I)
+    (P : Schedule) (trials : ℕ) (o : outcome R I ≡ complete P trials) where
+  fits-only : plan R sheet buffer .number ≡ 0 → length (planText I P) ≤ length buffer
+  fits-only n = split (leb (length (planText I P)) (length buffer))
+      (λ f. leb-true _ _ f)
+      (λ f. absurd (omega (arith, ap (λ a. a .number) (plan-short R sheet buffer I e P trials o f), n)))
 
-  abbrev short : Answer
-  short = record { number = 31; place = length text; trials = trials; buffer = buffer }
-
-  fits : length text ≤ length buffer → written text buffer trials ≡ success
-  fits l = rw (le-leb _ _ l)
-
-  lacks : length buffer < length text → written text buffer trials ≡ short
-  lacks l = rw (lt-leb _ _ l)
-
-  fits-only : written text buffer trials .number ≡ 0 → length text ≤ length buffer
-  fits-only n = split (leb (length text) (length buffer))
-      (λ e. leb-true _ _ e)
-      (λ e. absurd (omega (arith, ap (λ a. a .number) (lacks (leb-false _ _ e)), n)))
-
-  lacks-only : written text buffer trials .number ≡ 31 → length buffer < length text
-  lacks-only n = split (leb (length text) (length buffer))
-      (λ e. absurd (omega (arith, ap (λ a. a .number) (fits (leb-true _ _ e)), n)))
-      (λ e. leb-false _ _ e)
+  short-only : plan R sheet buffer .number ≡ 31 → length buffer < length (planText I P)
+  short-only n = split (leb (length (planText I P)) (length buffer))
+      (λ f. absurd (omega (arith, ap (λ a. a .number) (plan-fits R sheet buffer I e P trials o f), n)))
+      (λ f. leb-false _ _ f)
 
 pub heftTrials : HeftTrials
 heftTrials I W =
     let (P, trials, o) = plain-completes (heft plain) refl I W in
-    rw o (heft-trials I P trials o)
+    rw o (completed-trials I P trials o)
 
 pub plainExact : PlainExact
 plainExact R p sheet buffer I e =
     let (P, trials, o) = plain-completes R p I (sheetExact sheet I .0 e .0) in
-    let text = planText I P in
-    let a : plan R sheet buffer ≡ written text buffer trials = plan-complete R sheet buffer I P trials e o in
     record {
       schedule = P;
       trials = trials;
       completes = o;
       at0 = (
-        (λ h. fits-only text buffer trials (ap (λ a. a .number) (sym a ∙ h))),
-        (λ l. a ∙ fits text buffer trials l),
+        (λ a. fits-only R sheet buffer I e P trials o (ap (λ a. a .number) a)),
+        (λ l. plan-fits R sheet buffer I e P trials o (le-leb _ _ l)),
       );
       at31 = (
-        (λ h. lacks-only text buffer trials (ap (λ a. a .number) (sym a ∙ h))),
-        (λ l. a ∙ lacks text buffer trials l),
+        (λ a. short-only R sheet buffer I e P trials o (ap (λ a. a .number) a)),
+        (λ l. plan-short R sheet buffer I e P trials o (lt-leb _ _ l)),
       );
     }
 

@@ -31,12 +31,16 @@ both-task m I Q i j c s e = earlier-task I i (earliestStart m I Q i blue) (earli
 
 -- ---- how far down its list HEFT goes
 
-module _ (m : Memory) (I : Instance) where
-  -- a choice is of a task of the list
-  abbrev Within : List ℕ → Choice → Type 0
-  Within is nothing = Unit {0}
-  Within is (choose k c s) = List·Memᴰ k is
+-- a choice is of a task of the list
+abbrev Within : List ℕ → Choice → Type 0
+Within is nothing = Unit {0}
+Within is (choose k c s) = List·Memᴰ k is
 
+rest-within : (i : ℕ) (is : List ℕ) (x : Choice) → Within is x → Within (i ∷ is) x
+rest-within i is nothing h = tt
+rest-within i is (choose k c s) h = List·Memᴰ·tail h
+
+module _ (m : Memory) (I : Instance) where
   -- a task ahead of the choice is tried, the choice too, and nothing behind it
   down-to : (i k : ℕ) (c : Colour) (s : ℕ) → Ahead I i k → triedBy (heft m) I (choose k c s) i ≡ true
   down-to i k c s a =
@@ -68,10 +72,6 @@ module _ (m : Memory) (I : Instance) (Q : Partial) where
   abbrev counted : Planner → Choice → ℕ → ℕ
   counted R x j = cond (ready I (Q .schedule) j && triedBy R I x j) 2 0
 
-  rest-within : (i : ℕ) (is : List ℕ) (x : Choice) → Within m I is x → Within m I (i ∷ is) x
-  rest-within i is nothing h = tt
-  rest-within i is (choose k c s) h = List·Memᴰ·tail h
-
   first-tries : (i : ℕ) (is : List ℕ) → ready I (Q .schedule) i ≡ true → firstThatFits m I Q (i ∷ is) ≡ orRest (bothColours m I Q i) (firstThatFits m I Q is)
   unfolding firstThatFits
   first-tries i is r = rw r
@@ -84,14 +84,14 @@ module _ (m : Memory) (I : Instance) (Q : Partial) where
   unfolding firstThatFits
   first-none = refl
 
-  first-within : (is : List ℕ) → Within m I is (firstThatFits m I Q is .choice)
+  first-within : (is : List ℕ) → Within is (firstThatFits m I Q is .choice)
   first-within [] = rw first-none tt
   first-within (i ∷ is) = split (ready I (Q .schedule) i)
       (λ r. rw (first-tries i is r) (on (bothColours m I Q i) refl (first-within is)))
       (λ r. rw (first-skips i is r) (rest-within i is (firstThatFits m I Q is .choice) (first-within is)))
     where
-      on : (x : Choice) → bothColours m I Q i ≡ x → Within m I is (firstThatFits m I Q is .choice)
-          → Within m I (i ∷ is) (orRest x (firstThatFits m I Q is) .choice)
+      on : (x : Choice) → bothColours m I Q i ≡ x → Within is (firstThatFits m I Q is .choice)
+          → Within (i ∷ is) (orRest x (firstThatFits m I Q is) .choice)
       on nothing e h = rest-within i is (firstThatFits m I Q is .choice) h
       on (choose j c s) e h = List·Memᴰ·head (both-task m I Q i j c s e)
 

@@ -21,7 +21,7 @@ PlainStart =
     (I : Instance) (Q : Partial) (i : ℕ) (c : Colour) → earliestStart plain I Q i c ≡ some (max (processorStart I Q c) (inputStart I (Q .schedule) i c))
 
 -- HEFT makes two trials for each task: the first ready one of its list fits.
--- Not: every ready task tried; the trials of MINMIN
+-- Not: every ready task tried; the trials of MINMIN. It fixes HEFT's trials
 abbrev pub HeftTrials : Type 0
 HeftTrials = (I : Instance) → WellFormed I → trialsOf (outcome (heft plain) I) ≡ 2 * taskCount I
 
@@ -81,7 +81,8 @@ abbrev pub PlainParent : Type 0
 PlainParent =
     (R : Planner) (sheet buffer : List ℕ) (I : Instance) → readInstance sheet ≡ accepted I → Ample I → plan R sheet buffer ≡ plan (parentOf R) sheet buffer
 
--- and what a planner wrote there, a plain one too, is accepted when read back. Not: 17 while all files fit
+-- and what a planner wrote there, a plain one too, is accepted when read back; it follows from PlainParent and ReadBack. Not: 17 while all files fit.
+-- Alone it is met by a planner that never succeeds; AmpleMemory rules that out
 abbrev pub AmpleReadBack : Type 0
 AmpleReadBack =
     (R : Planner) (sheet buffer : List ℕ) (I : Instance) → readInstance sheet ≡ accepted I → Ample I → plan R sheet buffer .number ≡ 0 →

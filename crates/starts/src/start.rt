@@ -72,13 +72,13 @@ fn memory_start<'a>(
     ensures { λ r. ⌜ tickOf r ≤ lastStart ⌝ }
 {
     match memory {
-        Memory::Plain => Free::From(0),
         Memory::Aware => {
             let need = demand.incoming + demand.outputs;
             let running = free_from(shape, job, schedule, colour, need);
             let moving = free_from(shape, job, schedule, colour, demand.incoming);
             latest(running, moving, demand.longest)
         }
+        Memory::Plain => Free::From(0),
     }
 }
 
@@ -101,8 +101,8 @@ pub fn earliest_start<'a>(
     let demand = demand_of(shape, job, schedule, task, colour);
     let free = processor_start(shape, last, colour);
     let ready = greater(free, demand.arrival);
-    let room = memory_start(memory, shape, job, schedule, colour, demand);
-    let Free::From(s) = room else {
+    let asked = memory_start(memory, shape, job, schedule, colour, demand);
+    let Free::From(s) = asked else {
         return Free::Nowhere;
     };
     Free::From(greater(ready, s))

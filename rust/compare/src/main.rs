@@ -100,18 +100,20 @@ impl Tally {
         (got, mark)
     }
 
-    /// All planners on a sheet, and the last timetable written, by a memory-aware planner where it is not stuck.
+    /// All planners on a sheet; the last heuristic's timetable: the memory-aware one's where it is not stuck.
     fn planners(&mut self, r: &mut Random, sheet: &[u8]) -> Option<Vec<u8>> {
         let mut paper = None;
         for heuristic in [Heft, MinMin] {
-            let (plain, mark) = self.planner(r, heuristic.with(Plain), sheet);
-            let (aware, _) = self.planner(r, heuristic.with(Aware), sheet);
+            let (plain, plain_mark) = self.planner(r, heuristic.with(Plain), sheet);
+            let (aware, aware_mark) = self.planner(r, heuristic.with(Aware), sheet);
             let pair = plain::Pair {
                 heuristic,
                 plain: &plain,
                 aware: &aware,
+                plain_mark,
+                aware_mark,
             };
-            same(self.plain.planned(sheet, &pair, mark), sheet, plain.text());
+            same(self.plain.planned(sheet, &pair), sheet, plain.text());
             let written = [aware, plain].into_iter().find(|a| a.answer.number == 0);
             paper = written.map(|a| a.text().to_vec()).or(paper);
         }

@@ -1,6 +1,6 @@
 //! What Order 4 promises of the plain planners, and of the memory-aware ones beside them, looked at in the library's answers on each sheet
-//! and on the same sheet with other limits. Span, peaks and the first instant over a limit are counted from the lines of a plan, by none of
-//! the code of reference.rs. How often each answer was reached.
+//! and on the same sheet with other limits. Span, peaks and the first instant over a limit are counted from the lines of a plan by code of
+//! their own; the sheet is read by reference.rs. How often each answer was reached.
 
 use crate::generate::{sizes, write_sheet, Random};
 use crate::library::{self, compared, Answered};
@@ -180,16 +180,18 @@ pub struct Counts {
     worked: u64,
 }
 
-/// The answers of a heuristic's two planners to a sheet.
+/// The answers of a heuristic's two planners to a sheet, and the marker's to what they wrote.
 pub struct Pair<'a> {
     pub heuristic: Heuristic,
     pub plain: &'a Answered,
     pub aware: &'a Answered,
+    pub plain_mark: [u64; 5],
+    pub aware_mark: [u64; 5],
 }
 
 impl Pair<'_> {
-    /// The plain planner's number, trials and claim, and the marker's answer to what it wrote; an error where one of them is not due.
-    fn check(&self, sheet: &Sheet, mark: [u64; 5]) -> Result<(), String> {
+    /// The plain planner's number, trials and claim, and the marker's answers to both plans; an error where one of them is not due.
+    fn check(&self, sheet: &Sheet) -> Result<(), String> {
         let (number, trials) = (self.plain.answer.number, self.plain.answer.trials);
         let n = sheet.tasks.len() as u64;
         let counted = match self.heuristic {
@@ -204,10 +206,16 @@ impl Pair<'_> {
         let lines = Lines::read(self.plain.text());
         let [_, _, true_claim @ ..] = lines.due_mark(sheet, [BIG; 2]);
         let due = lines.due_mark(sheet, sheet.limits);
-        if lines.claim.map(|n| n as u64) != true_claim || mark != due {
+        if lines.claim.map(|n| n as u64) != true_claim || self.plain_mark != due {
             return Err(format!(
-                "a plain plan has span and peaks {true_claim:?}, and is due to be marked {due:?}: it claims {:?} and is marked {mark:?}",
-                lines.claim
+                "a plain plan has span and peaks {true_claim:?}, and is due to be marked {due:?}: it claims {:?} and is marked {:?}",
+                lines.claim, self.plain_mark
+            ));
+        }
+        if self.aware.answer.number == 0 && self.aware_mark[0] != 0 {
+            return Err(format!(
+                "a memory-aware plan is marked {:?}",
+                self.aware_mark
             ));
         }
         Ok(())
@@ -272,16 +280,16 @@ fn with_limits(sheet: &Sheet, limits: [i64; 2]) -> Vec<u8> {
 }
 
 impl Counts {
-    /// A sheet, the answers to it, and the marker's to the plain plan; an error where a promise is not kept. Of a refused sheet none is made.
-    pub fn planned(&mut self, sheet: &[u8], pair: &Pair, mark: [u64; 5]) -> Result<(), String> {
+    /// A sheet and the answers to it; an error where a promise is not kept. Of a refused sheet none is made.
+    pub fn planned(&mut self, sheet: &[u8], pair: &Pair) -> Result<(), String> {
         let Ok(sheet) = read_sheet(sheet) else {
             return Ok(());
         };
-        pair.check(&sheet, mark)?;
+        pair.check(&sheet)?;
         let row = &mut self.rows[pair.heuristic as usize];
         row.plans += 1;
-        row.accepted += u64::from(mark[0] == 0);
-        row.over += u64::from(mark[0] == 17);
+        row.accepted += u64::from(pair.plain_mark[0] == 0);
+        row.over += u64::from(pair.plain_mark[0] == 17);
         row.by_relay += u64::from(Lines::read(pair.plain.text()).by_relay(&sheet));
         row.own.count(pair.plain, pair.aware);
         row.other_limits(&mut self.draws, &sheet, pair)?;
@@ -375,7 +383,7 @@ impl Row {
     }
 
     /// What must have been reached.
-    fn due(&self) -> [(&'static str, u64); 11] {
+    fn due(&self) -> [(&'static str, u64); 12] {
         let (own, at_peaks) = (self.own, self.at_peaks);
         [
             ("plans accepted", self.accepted),
@@ -386,6 +394,10 @@ impl Row {
             ("the memory-aware planner stuck", own.stuck),
             ("limits of the sum of all sizes or more", self.ample),
             ("limits of 0", self.zero),
+            (
+                "the sum of all sizes less one block, another plan",
+                self.less.other,
+            ),
             ("limits of the peaks, the same plan", at_peaks.same),
             ("limits of the peaks, another plan", at_peaks.other),
             ("one block less than a peak, refused by 17", self.below_peak),
@@ -408,6 +420,14 @@ mod tests {
     const PLAN: &str =
         "(run 1 2 0)\n(run 2 1 3)\n(run 3 1 6)\n(move 1 2 2)\n(move 1 3 4)\n(claim 8 5 5)\n";
     const OVER: [u64; 5] = [17, 4, 0, 0, 0];
+    const STUCK: Answered = Answered {
+        answer: Answer {
+            number: 21,
+            place: 0,
+            trials: 2,
+        },
+        buffer: vec![],
+    };
 
     /// Whether an answer passes on the course example with a blue limit of 4.
     fn passes(heuristic: Heuristic, number: u64, trials: u64, text: &str, mark: [u64; 5]) -> bool {
@@ -422,9 +442,11 @@ mod tests {
         let pair = Pair {
             heuristic,
             plain: &answered,
-            aware: &answered,
+            aware: &STUCK,
+            plain_mark: mark,
+            aware_mark: [0; 5],
         };
-        pair.check(&read_sheet(SHEET).unwrap(), mark).is_ok()
+        pair.check(&read_sheet(SHEET).unwrap()).is_ok()
     }
 
     #[test]

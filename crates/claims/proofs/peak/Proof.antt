@@ -14,14 +14,15 @@ use Rattle.claims.proofs.peak.Tie as tie
 
 abbrev Inv-loop : tie.InvT-loop
 Inv-loop shape job schedule colour most₀ i₀ most i =
-    (i ≤ shape .files) × (most ≤ mostHeld)
+    (i ≤ shape .files)
     × (most ≡ maxBelow i (heldAtStart (instanceFrom shape (jobOf job)) (scheduleFrom shape (entriesOf schedule)) (asColour colour)))
+    × (most ≤ mostHeld)
 
 abbrev μ-loop : tie.MeasureT-loop
 μ-loop shape job schedule colour most₀ i₀ most i = shape .files - i
 
 loop-holds : tie.Need-loop-holds Inv-loop μ-loop
-loop-holds c = (omega arith, omega arith, sym (max-none _))
+loop-holds c = (omega arith, sym (max-none _), omega arith)
 
 hold-start-requires : tie.Need-hold-start-requires Inv-loop μ-loop
 hold-start-requires c κs = search needs

@@ -19,21 +19,21 @@ greater-requires c κs = search needs
 memory-start-requires : tie.Need-memory-start-requires
 memory-start-requires c κs = search needs
 
-enum-known-room : tie.Need-enum-known-room
-enum-known-room c = search needs
+enum-known-asked : tie.Need-enum-known-asked
+enum-known-asked c = search needs
 
 enum-told : tie.Need-enum-told
 enum-told c = search needs
 
 returns : tie.Need-returns
 returns c =
-    let room = c .before .before in
-    let starts = room .before in
+    let asked = c .before .before in
+    let starts = asked .before in
     let a = starts .before .before .before .args in
     let d = starts .before .before .demand-of .ensures .0 in (
       earliest-none (a .shape) (jobOf (a .job .now)) (entriesOf (a .schedule .now)) (a .last .now) (asMemory (a .memory)) (a .task) (a .colour) d
           (starts .before .processor-start .ensures .0 _ _) (starts .greater .ensures)
-          (room .memory-start .result) (room .memory-start .ensures .0 (a .task) d) (c .enum-told .given .1),
+          (asked .memory-start .result) (asked .memory-start .ensures .0 (a .task) d) (c .enum-told .given .1),
       omega arith,
     )
 
@@ -42,14 +42,14 @@ greater-requires-2 c κs = search needs
 
 returns-2 : tie.Need-returns-2
 returns-2 c =
-    let room = c .before .before .before .before in
-    let starts = room .before in
+    let asked = c .before .before .before .before in
+    let starts = asked .before in
     let a = starts .before .before .before .args in
     let d = starts .before .before .demand-of .ensures .0 in
-    let s = c .before .before .room .given .1 in (
+    let s = c .before .before .asked .given .1 in (
       earliest-at (a .shape) (jobOf (a .job .now)) (entriesOf (a .schedule .now)) (a .last .now) (asMemory (a .memory)) (a .task) (a .colour) d
           (starts .before .processor-start .ensures .0 _ _) (starts .greater .ensures)
-          (room .memory-start .result) (room .memory-start .ensures .0 (a .task) d) s (c .greater2 .ensures),
+          (asked .memory-start .result) (asked .memory-start .ensures .0 (a .task) d) s (c .greater2 .ensures),
       omega (arith, tick-of s),
     )
 
@@ -61,7 +61,7 @@ earliest-start-spec =
     processor-start-requires
     greater-requires
     memory-start-requires
-    enum-known-room
+    enum-known-asked
     enum-told
     returns
     greater-requires-2

@@ -11,9 +11,6 @@ use Rattle.starts.proofs.start.memory_start.Tie as tie
 enum-told : tie.Need-enum-told
 enum-told c = search needs
 
-enum-told-2 : tie.Need-enum-told-2
-enum-told-2 c = search needs
-
 add-need : tie.Need-add-need
 add-need c = search needs
 
@@ -26,21 +23,24 @@ free-from-requires-2 c κs = search needs
 latest-requires : tie.Need-latest-requires
 latest-requires c κs = search needs
 
+enum-told-2 : tie.Need-enum-told-2
+enum-told-2 c = search needs
+
 returns : tie.Need-returns
 returns c =
-    let a = c .before .before .args in (
-      (λ i e. memory-plain (instanceFrom (a .shape) (jobOf (a .job .now))) (scheduleFrom (a .shape) (entriesOf (a .schedule .now))) (asColour (a .colour))
-          (a .memory) i e (c .enum-told .given .1)),
-      omega arith,
+    let a = c .before .before .before .before .before .before .args in (
+      (λ i e. memory-aware (instanceFrom (a .shape) (jobOf (a .job .now))) (scheduleFrom (a .shape) (entriesOf (a .schedule .now))) (asColour (a .colour))
+          (a .memory) i e (c .before .before .before .before .enum-told .given .1) (c .before .before .free-from .result) (c .before .free-from2 .result)
+          (c .latest .result) refl (c .before .before .free-from .ensures .0) (c .before .free-from2 .ensures .0) (c .latest .ensures .0)),
+      c .latest .ensures .1,
     )
 
 returns-2 : tie.Need-returns-2
 returns-2 c =
-    let a = c .before .before .before .before .before .before .args in (
-      (λ i e. memory-aware (instanceFrom (a .shape) (jobOf (a .job .now))) (scheduleFrom (a .shape) (entriesOf (a .schedule .now))) (asColour (a .colour))
-          (a .memory) i e (c .before .before .before .before .enum-told2 .given .1) (c .before .before .free-from .result) (c .before .free-from2 .result)
-          (c .latest .result) refl (c .before .before .free-from .ensures .0) (c .before .free-from2 .ensures .0) (c .latest .ensures .0)),
-      c .latest .ensures .1,
+    let a = c .before .before .args in (
+      (λ i e. memory-plain (instanceFrom (a .shape) (jobOf (a .job .now))) (scheduleFrom (a .shape) (entriesOf (a .schedule .now))) (asColour (a .colour))
+          (a .memory) i e (c .enum-told2 .given .1)),
+      omega arith,
     )
 
 pub memory-start-spec : {M : Type 1} → statement M
@@ -48,10 +48,10 @@ memory-start-spec =
     tie.close
     (tie.spec
     enum-told
-    enum-told-2
     add-need
     free-from-requires
     free-from-requires-2
     latest-requires
+    enum-told-2
     returns
     returns-2)
