@@ -46,8 +46,8 @@ pub record PlannerDemands (R : Planner) (sheet buffer : List ℕ) (a : Answer) :
   pub sheetFault : (w : Fault) (k : ℕ) → ((a .number ≡ faultNumber inSheet w) × (a .place ≡ k)) ↔ SheetFault sheet w k
   -- a buffer as long as a text may be is never too short. Not: 31 whatever the buffer
   pub roomy : maxText ≤ length buffer → a .number ≡ 31 → ⊥
-  -- what was written carries a true claim; read back it is accepted exactly if it keeps the limits, and refused by 17 exactly at the first instant over
-  -- one, by nothing else. Not: one line only; a claim made of the limits. Alone it is met by a planner that never succeeds
+  -- what was written carries a true claim; read back it is accepted exactly if it keeps the limits, which the claim tells, and refused by 17 exactly at
+  -- the first instant over one, by nothing else. Not: one line only; a claim made of the limits. Alone it is met by a planner that never succeeds
   pub marked : a .number ≡ 0 → MarkedBack R sheet buffer a
   -- where memory is ample and the buffer as long as the timetable it succeeds. Not: stuck on each sheet
   pub ample : (I : Instance) → readInstance sheet ≡ accepted I → Ample I

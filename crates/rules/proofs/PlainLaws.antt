@@ -1,4 +1,4 @@
--- Order 4, the rounds: a plain planner's starts and HEFT's trials; and that where memory is ample a planner does what its plain parent does.
+-- Order 4, the rounds: HEFT's trials; and that where memory is ample a planner does what its plain parent does.
 use Prim.Native.Nat.{ℕ, zero, suc, _+_, _*_, _≤_}
 use mathlib.Core.Bool.{true}
 use mathlib.Core.List.{List, [], _∷_}
@@ -9,20 +9,14 @@ use lib.Dec.{leb}
 use Rattle.rules.specs.Model.{Colour, blue, red, Instance, taskCount, fileCount, moveTimeAt, Schedule}
 use Rattle.rules.specs.Scheduling.{Partial, ready, reads, crossing, crossingSize, outputSize, crossingTime, arrival, inputStart, freeFrom, aware, plain, memoryStart, earliestStart, assign, finishOn, Choice, nothing, choose, earlier, bothColours, byWeight, firstThatFits, earliestBelow, Planner, heft, minMin, parentOf, roundOf, complete, stuck, rounds, outcome}
 use Rattle.rules.specs.Promises.{WellFormed, Ample}
-use Rattle.rules.specs.PlainPlanners.{PlainStart}
 use Rattle.rules.proofs.Tests.{split, and-true}
 use Rattle.rules.proofs.CountLaws.{where-bound, where-under}
 use Rattle.rules.proofs.ResidencyLaws.{freeFromLaw}
 use Rattle.rules.proofs.ReadyLaws.{sizes-suffice}
+use Rattle.rules.proofs.StartLaws.{plainStart}
 use Rattle.rules.proofs.TurnLaws.{rounds-stuck, rounds-place, rounds-done, outcome-is}
 
--- ---- a plain planner's task fits on each colour
-
-pub plainStart : PlainStart
-unfolding earliestStart memoryStart
-plainStart I Q i c = ap some (omega arith)
-
--- ---- so HEFT makes two trials in each round that places a task
+-- ---- a plain planner's task fits on each colour, so HEFT makes two trials in each round that places a task
 
 earlier-chooses : (I : Instance) (i : ℕ) (s t : ℕ) → (j : ℕ) × (c : Colour) × (u : ℕ) × (earlier I (choose i blue s) (choose i red t) ≡ choose j c u)
 earlier-chooses I i s t = split (leb (finishOn I i blue s) (finishOn I i red t))

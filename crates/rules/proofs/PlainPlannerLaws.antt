@@ -9,7 +9,7 @@ use lib.Dec.{leb}
 use lib.ListN.{length, take}
 use borrow.Author.Tests.{leb-true, leb-false, le-leb, lt-leb}
 use Rattle.rules.specs.Model.{Instance, Schedule}
-use Rattle.rules.specs.Validity.{Apart, AllOnTime, WithinLimits, Valid, Verdict, acceptedWith, refusedBy, trueClaim, judge}
+use Rattle.rules.specs.Validity.{ClaimTrue, Apart, AllOnTime, WithinLimits, Valid, Verdict, acceptedWith, refusedBy, trueClaim, judge}
 use Rattle.rules.specs.Scheduling.{plain, Planner, heft, complete, outcome}
 use Rattle.rules.specs.Text.{tooLong, malformed, outOfRange, undue}
 use Rattle.rules.specs.InstanceText.{accepted, readInstance}
@@ -23,6 +23,7 @@ use Rattle.rules.proofs.ResidencyLaws.{held-under}
 use Rattle.rules.proofs.JudgeLaws.{Judged, by15, by16, by17, by18, by0, judged as judge-ends}
 use Rattle.rules.proofs.TimetableLaws.{timetable-exact}
 use Rattle.rules.proofs.MarkerLaws.{mark-judges}
+use Rattle.rules.proofs.CompleteLaws.{claim-tells}
 use Rattle.rules.proofs.ValidLaws.{judge-exact}
 use Rattle.rules.proofs.PlaceLaws.{placeLaw}
 use Rattle.rules.proofs.OutcomeLaws.{completed-apart, completed-onTime, completed-claim, completed-spellable, completed-valid}
@@ -107,6 +108,9 @@ module _ (R : Planner) (sheet buffer : List ℕ) (s : Succeeds R sheet buffer) w
   onTime : AllOnTime I P
   onTime = completed-onTime R I (s .formed) P (s .written .rule .trials) (s .written .rule .notStuck)
 
+  claimed : ClaimTrue I P (trueClaim I P)
+  claimed = completed-claim R I (s .formed) P (s .written .rule .trials) (s .written .rule .notStuck)
+
   valid : WithinLimits I P → Valid I P (trueClaim I P)
   valid l = completed-valid R I (s .formed) P (s .written .rule .trials) (s .written .rule .notStuck) l
 
@@ -118,7 +122,8 @@ module _ (R : Planner) (sheet buffer : List ℕ) (s : Succeeds R sheet buffer) w
         job = I;
         sheetAccepted = s .sheetAccepted;
         written = s .written;
-        claimTrue = completed-claim R I (s .formed) P (s .written .rule .trials) (s .written .rule .notStuck);
+        claimTrue = claimed;
+        told = claim-tells I P (trueClaim I P) claimed;
         at0 = ((λ h. x .0 (sym judged ∙ h) .within), (λ l. judged ∙ x .1 (valid l)));
         at17 = λ t. ((λ h. y .at17 t .0 (sym judged ∙ h) .2), (λ f. judged ∙ y .at17 t .1 (apart, onTime, f)));
         only = only-17 (judge-ends I P (trueClaim I P)) refl;

@@ -5,7 +5,7 @@ use mathlib.Core.Logic.{_↔_, _⊎_}
 use mathlib.Core.List.{List}
 use mathlib.Core.Option.{some}
 use lib.ListN.{length, take}
-use Rattle.rules.specs.Model.{Colour, Instance, taskCount, Schedule}
+use Rattle.rules.specs.Model.{Colour, blue, red, Instance, limitOf, taskCount, Schedule}
 use Rattle.rules.specs.Validity.{ClaimTrue, WithinLimits, OverLimit, acceptedWith, refusedBy, trueClaim}
 use Rattle.rules.specs.Scheduling.{plain, Planner, heft, memoryOf, parentOf, complete, outcome, Partial, processorStart, inputStart, earliestStart}
 use Rattle.rules.specs.InstanceText.{accepted, readInstance}
@@ -54,13 +54,15 @@ NeverStuck = (R : Planner) → memoryOf R ≡ plain → (sheet buffer : List ℕ
 
 -- ---- what was written, read back
 
--- the rule's timetable is what was written, and its claim is true. Read back it is accepted exactly if it keeps the limits, and refused by 17 at t exactly
--- if t is the first instant over one; nothing else is answered
+-- the rule's timetable is what was written, and its claim is true. Read back it is accepted exactly if it keeps the limits, which its claim tells, and
+-- refused by 17 at t exactly if t is the first instant over one; nothing else is answered
 pub record MarkedBack (R : Planner) (sheet buffer : List ℕ) (a : Answer) : Type 0 where
   pub job : Instance
   pub sheetAccepted : readInstance sheet ≡ accepted job
   pub written : Written R job buffer a
   pub claimTrue : ClaimTrue job (written .rule .schedule) (trueClaim job (written .rule .schedule))
+  pub told : WithinLimits job (written .rule .schedule)
+      ↔ ((trueClaim job (written .rule .schedule) .bluePeak ≤ limitOf job blue) × (trueClaim job (written .rule .schedule) .redPeak ≤ limitOf job red))
   pub at0 : (mark sheet (take (a .place) (a .buffer)) ≡ acceptedWith (trueClaim job (written .rule .schedule))) ↔ WithinLimits job (written .rule .schedule)
   pub at17 : (t : ℕ) → (mark sheet (take (a .place) (a .buffer)) ≡ refusedBy 17 t) ↔ First (OverLimit job (written .rule .schedule)) t
   pub only : (mark sheet (take (a .place) (a .buffer)) ≡ acceptedWith (trueClaim job (written .rule .schedule)))
