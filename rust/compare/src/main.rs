@@ -275,7 +275,7 @@ fn moved_papers(t: &mut Tally, r: &mut Random, number: u64) {
     }
 }
 
-/// The traces and plans worked by hand, and timetables that move every file, step by step.
+/// The traces worked by hand, the known plans, and timetables that move every file, step by step.
 fn by_hand(t: &mut Tally) {
     if let Err(difference) = t.simulator.by_hand().and(t.plain.by_hand()) {
         panic!("{difference}");

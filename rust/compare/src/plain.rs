@@ -172,7 +172,7 @@ struct Row {
     below_peak: u64,
 }
 
-/// What was counted of each heuristic's planners, and the sheets worked by hand.
+/// What was counted of each heuristic's planners, and the sheets with known plans.
 #[derive(Default)]
 pub struct Counts {
     draws: Random,
@@ -296,7 +296,7 @@ impl Counts {
         row.peaks_as_limits(&sheet, pair)
     }
 
-    /// Holds the library and reference.rs against the plans worked by hand.
+    /// Holds the library and reference.rs against the known plans.
     pub fn by_hand(&mut self) -> Result<(), String> {
         for sheet in plans() {
             sheet.hold(library::plan, library::mark)?;
@@ -331,7 +331,7 @@ impl Counts {
                 row.below_peak
             );
         }
-        println!("sheets planned by hand: {}", self.worked);
+        println!("sheets with known plans: {}", self.worked);
     }
 
     /// What was never reached: a line each.
@@ -342,7 +342,7 @@ impl Counts {
             all.extend(never.map(|r| format!("{plain}, {}: none", r.0)));
         }
         if self.worked == 0 {
-            all.push("no sheet was planned by hand".to_string());
+            all.push("no sheet with known plans".to_string());
         }
         all
     }
@@ -476,14 +476,20 @@ mod tests {
         }
     }
 
+    /// A sheet by chance, with relays.
+    fn drawn(r: &mut Random, tasks: usize) -> (String, Sheet) {
+        let text = generate::sheet(r, tasks);
+        let text = generate::with_relays(r, &text);
+        let sheet = read_sheet(text.as_bytes()).unwrap();
+        (text, sheet)
+    }
+
     /// What is counted from the lines is what the marker of reference.rs finds, with relays and tight limits too.
     #[test]
     fn counted_from_the_lines() {
         let mut r = Random(4);
         for _ in 0..300 {
-            let text = generate::sheet(&mut r, 7);
-            let text = generate::with_relays(&mut r, &text);
-            let sheet = read_sheet(text.as_bytes()).unwrap();
+            let (text, sheet) = drawn(&mut r, 7);
             let paper = reference::write_table(&sheet, &generate::table(&mut r, &sheet));
             let lines = Lines::read(paper.as_bytes());
             assert_eq!(
@@ -499,9 +505,7 @@ mod tests {
     fn ample_memory() {
         let mut r = Random(5);
         for number in 0..300 {
-            let text = generate::sheet(&mut r, 9);
-            let text = generate::with_relays(&mut r, &text);
-            let sheet = read_sheet(text.as_bytes()).unwrap();
+            let (_, sheet) = drawn(&mut r, 9);
             let text = with_limits(&sheet, [sizes(&sheet) + number % 2; 2]);
             for heuristic in [Heft, MinMin] {
                 let [plain, aware] =

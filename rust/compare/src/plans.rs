@@ -1,5 +1,5 @@
-//! Plans worked by hand: sheets with the answers of all four planners, and the marker's to what they write. The comparison holds the library
-//! and reference.rs against them.
+//! Known plans, worked by hand or after document 01's examples: sheets with the answers of all four planners, and the marker's to what they
+//! write. The comparison holds the library and reference.rs against them.
 
 use crate::library::Answered;
 use crate::reference::{Planner, Refused, PLANNERS};
@@ -17,7 +17,7 @@ enum Ending {
     Stuck(u64),
 }
 
-/// A sheet worked by hand.
+/// A sheet with known plans.
 pub struct Worked {
     name: &'static str,
     sheet: String,
