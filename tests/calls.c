@@ -173,7 +173,7 @@ static void simulator(void) {
     expect_state("an early move", &s, 0, 1, 2, 2);
 }
 
-/* The largest sheet: 64 tasks and 256 files, and a timetable that moves every file, makers on processor 1 and readers on processor 9. */
+/* The largest sheet, with the longest times: 64 tasks and 256 files, and a timetable that moves every file, makers on processor 1 and readers on processor 9. */
 static char large[FRAMES_MAX_TEXT];
 static char large_paper[FRAMES_MAX_TEXT];
 
@@ -182,16 +182,31 @@ static void make_large(void) {
     char *p = large_paper;
     s += sprintf(s, "(board (blue 8 999999999) (red 8 999999999))\n");
     for (int i = 1; i <= 64; i++) {
-        s += sprintf(s, "(task %d 1000000 1000000)\n", i);
-        p += sprintf(p, "(run %d %d %d)\n", i, i <= 32 ? 1 : 9, 1000000 * (i + (i <= 32 ? 0 : 1)));
+        s += sprintf(s, "(task %d 1000000000 1000000000)\n", i);
+        p += sprintf(p, "(run %d %d %lld)\n", i, i <= 32 ? 1 : 9, 1000000000LL * (i + (i <= 32 ? 0 : 1)));
     }
     for (int i = 1; i <= 32; i++) {
         for (int j = 33; j <= 40; j++) {
-            s += sprintf(s, "(file %d %d 1000000 1000000)\n", i, j);
-            p += sprintf(p, "(move %d %d 33000000)\n", i, j);
+            s += sprintf(s, "(file %d %d 1000000 1000000000)\n", i, j);
+            p += sprintf(p, "(move %d %d 33000000000)\n", i, j);
         }
     }
-    sprintf(p, "(claim 66000000 256000000 256000000)\n");
+    sprintf(p, "(claim 66000000000 256000000 256000000)\n");
+}
+
+/* Numbers of twelve digits come through whole, and those of the largest timetable. */
+static void wide_numbers(void) {
+    uint64_t verdict[5];
+    text sheet = as_text("(board (blue 1 0) (red 1 0))\n(task 1 1 0)\n");
+    text latest = as_text("(run 1 2 999999999999)\n(claim 999999999999 0 0)\n");
+    text later = as_text("(run 1 1 999999999999)\n(claim 999999999999 0 0)\n");
+    text s = as_text(large), p = as_text(large_paper);
+    frames_mark(sheet.bytes, sheet.len, latest.bytes, latest.len, verdict);
+    EXPECT("a span of 12 digits", verdict, FRAMES_OK, 0, 999999999999, 0, 0);
+    frames_mark(sheet.bytes, sheet.len, later.bytes, later.len, verdict);
+    EXPECT("a span of 13 digits", verdict, FRAMES_CLAIM_UNTRUE, 0, 0, 0, 0);
+    frames_mark(s.bytes, s.len, p.bytes, p.len, verdict);
+    EXPECT("the largest timetable", verdict, FRAMES_OK, 0, 66000000000, 256000000, 256000000);
 }
 
 /* The calls that are measured. Each keeps its answer in `last`. */
@@ -305,8 +320,9 @@ int main(void) {
     over_a_limit();
     simulator();
     make_large();
+    wide_numbers();
     stacks();
     threads();
-    puts("calls from C: NULL, short buffers, plans over a limit, the simulator's arrays, stack and threads as include/frames.h says");
+    puts("calls from C: NULL, short buffers, plans over a limit, wide numbers, the simulator's arrays, stack and threads as include/frames.h says");
     return 0;
 }

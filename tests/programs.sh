@@ -26,7 +26,7 @@ cp "$examples/course.sheet" sheet
 cp "$examples/course.memheft" paper
 timetable=$(cat paper)$'\n'
 mkdir folder
-sed 's/(task 2 3 5)/(task 2 1000001 5)/' sheet > bad.sheet
+sed 's/(task 2 3 5)/(task 2 1000000001 5)/' sheet > bad.sheet
 sed 's/6)/4)/g' sheet > tight.sheet
 sed '1s/6)/4)/g' sheet > limits.sheet
 head -n 1 sheet > board.sheet
@@ -51,6 +51,13 @@ four=$(printf '(%s)\n' 'run 1 2 0' 'run 2 1 2' 'run 3 2 1' 'move 1 2 1' 'claim 3
     'run 1 1 0' 'run 2 1 2' 'run 3 2 0' 'claim 3 1 0' \
     'run 1 2 0' 'run 2 1 2' 'run 3 1 0' 'move 1 2 1' 'claim 3 1 1' \
     'run 1 1 1' 'run 2 1 3' 'run 3 1 0' 'claim 4 1 0')$'\n'
+printf '(%s)\n' 'board (blue 1 0) (red 1 0)' 'task 1 1 0' > tick.sheet
+printf '(%s)\n' 'run 1 2 999999999999' 'claim 999999999999 0 0' > last_tick.paper
+sed 's/(run 1 2 /(run 1 1 /' last_tick.paper > over.paper
+sed 's/(run 1 2 .*/(run 1 2 1000000000000)/' last_tick.paper > thirteen.paper
+sed '1s/ 0)/ 1000000000)/' tick.sheet > limit.sheet
+printf '(%s)\n' 'board (blue 1 9) (red 1 9)' 'task 1 1000000000 1000000000' 'task 2 1000000000 1000000000' 'file 1 2 9 1000000000' > seconds.sheet
+seconds=$(printf '(%s)\n' 'run 1 1 0' 'run 2 1 1000000000' 'claim 2000000000 9 0')$'\n'
 sed '2s/.*//' paper > empty_line.paper
 { head -n 1 paper; printf '(run\t2 1\\ 3)\033[31m\377\n'; tail -n +3 paper; } > control.paper
 escaped='(run\x092 1\\ 3)\x1b[31m\xff'
@@ -104,6 +111,8 @@ expect 'HEFT, a refused sheet' 'frameplan heft < bad.sheet' $'(refused 3 3)\n' '
 expect 'MINMIN, a sheet of 32769 bytes' 'frameplan minmin < 32769.sheet' $'(refused 1 0)\n' ''
 expect 'HEFT and MINMIN apart' 'frameplan heft < apart.sheet; frameplan minmin < apart.sheet' "$apart" ''
 expect 'all four apart' 'for p in heft memheft minmin memminmin; do frameplan $p < four.sheet; done' "$four" ''
+expect 'times of ten digits' 'for p in heft memheft minmin memminmin; do frameplan $p < seconds.sheet; done' "$seconds$seconds$seconds$seconds" ''
+expect 'a limit of ten digits' 'frameplan < limit.sheet' $'(refused 3 1)\n' ''
 expect 'an unknown planner' 'frameplan memhef < sheet' '' "$usage"
 expect 'a planner in capitals' 'frameplan HEFT < sheet' '' "$usage"
 expect 'an empty argument' 'frameplan "" < sheet' '' "$usage"
@@ -117,11 +126,14 @@ expect 'an accepted paper' 'framemark sheet paper' "$accepted" ''
 expect 'a paper that comes in pieces' 'framemark sheet <(head -c 30 paper; sleep 0.2; tail -c +31 paper)' "$accepted" ''
 expect 'closed standard input, which is not read' 'framemark sheet paper <&-' "$accepted" ''
 expect 'a line at fault' 'framemark sheet zero.paper' $'(refused 12 2)\n(run 2 01 3)\n' ''
-expect 'a line at fault of the sheet' 'framemark bad.sheet paper' $'(refused 3 3)\n(task 2 1000001 5)\n' ''
+expect 'a line at fault of the sheet' 'framemark bad.sheet paper' $'(refused 3 3)\n(task 2 1000000001 5)\n' ''
 expect 'a fault of no line' 'framemark sheet early.paper' $'(refused 15 2)\n' ''
 expect 'a paper with a relay' 'framemark relay.sheet relay.paper' $'(accepted 8 5 6)\n' ''
 expect 'a relay inside a run' 'framemark relay.sheet inside.paper' $'(refused 15 1)\n' ''
 expect 'a relay at the start of a run' 'framemark relay.sheet at_start.paper' $'(accepted 8 2 6)\n' ''
+expect 'a start of twelve digits' 'framemark tick.sheet last_tick.paper' $'(accepted 999999999999 0 0)\n' ''
+expect 'a start of thirteen digits' 'framemark tick.sheet thirteen.paper' $'(refused 12 1)\n(run 1 2 1000000000000)\n' ''
+expect 'a span over the range' 'framemark tick.sheet over.paper' $'(refused 18 0)\n' ''
 expect 'a plain plan over a limit' 'framemark limits.sheet <(frameplan heft < limits.sheet)' $'(refused 17 0)\n' ''
 expect 'a relay whose files together are over a limit' 'framemark relay_tight.sheet relay.paper' $'(refused 17 2)\n' ''
 expect 'an absent line' 'framemark sheet short.paper' $'(refused 12 6)\n' ''
@@ -191,7 +203,8 @@ expect 'steps after the last' 'framewatch sheet paper 2 6' "$heading$ended" ''
 expect 'more steps made than there are' 'framewatch sheet paper 18446744073709551615 18446744073709551615' "$heading$ended" ''
 expect 'numbers with zeros before them' 'framewatch sheet paper 00 006' "$heading$ended" ''
 expect 'a trace with a refused paper' 'framewatch sheet zero.paper' $'(refused 12 2)\n(run 2 01 3)\n' ''
-expect 'a trace with a refused sheet' 'framewatch bad.sheet paper 0 3' $'(refused 3 3)\n(task 2 1000001 5)\n' ''
+expect 'a trace with a refused sheet' 'framewatch bad.sheet paper 0 3' $'(refused 3 3)\n(task 2 1000000001 5)\n' ''
+expect 'a trace past the range of a claim' 'framewatch tick.sheet over.paper | tail -n 1' $'ended: the span is 1000000000000\n' ''
 expect 'a trace with an absent line' 'framewatch sheet short.paper' $'(refused 12 6)\n' ''
 expect 'a trace with control bytes' 'framewatch sheet control.paper' $'(refused 12 2)\n'"$escaped"$'\n' ''
 expect 'a trace with a paper of 100000 bytes' 'framewatch sheet 100000.paper' $'(refused 11 0)\n' ''

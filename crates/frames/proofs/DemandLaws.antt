@@ -5,24 +5,31 @@ use mathlib.Core.List.{List}
 use native.Mathlib.Omega.{arith}
 use lib.ListN.{length}
 use Rattle.rules.specs.Limits.{maxText}
+use Rattle.rules.specs.Model.{Instance}
 use Rattle.rules.specs.Validity.{Verdict}
 use Rattle.rules.specs.Scheduling.{aware, plain, Planner, heft, memoryOf}
 use Rattle.rules.specs.Text.{inSheet, inTimetable, faultNumber}
+use Rattle.rules.specs.InstanceText.{accepted, readInstance}
 use Rattle.rules.specs.Calls.{Answer, mark, plan}
+use Rattle.rules.specs.Promises.{Written}
+use Rattle.rules.specs.FinerTicks.{InRange}
 use Rattle.rules.specs.CallsExact.{Planned, byText, by21, by31, by0}
 use Rattle.rules.proofs.SheetLaws.{sheetExact}
 use Rattle.rules.proofs.SheetFaultLaws.{sheetFaults}
 use Rattle.rules.proofs.ScheduleFaultLaws.{scheduleFaults}
 use Rattle.rules.proofs.MarkerLaws.{markerEnds, markerExact, mark-sheet, mark-timetable}
-use Rattle.rules.proofs.PlannerLaws.{plannerEnds, plannerExact, plansShort, readBack, ampleMemory, plan-refused, plan-trials}
+use Rattle.rules.proofs.PlannerLaws.{plannerEnds, plannerExact, plansShort, plansInRange, readBack, ampleMemory, plan-refused, plan-trials}
 use Rattle.rules.proofs.CallsExactLaws.{markCall, planCall}
+use Rattle.rules.proofs.KeptLaws.{keptMarks, keptSheets, keptTimetables}
+use Rattle.rules.proofs.ChangedLaws.{changedMarks}
 use Rattle.rules.proofs.PlainPlannerLaws.{heftTrials, plainExact, neverStuck, planMarked, plainParent, ampleReadBack}
 use Rattle.rules.specs.Simulation.{Simulation, simulate}
-use Rattle.rules.proofs.SimulatorLaws.{simulatorLaw, simulate-sheet, simulate-timetable}
+use Rattle.rules.proofs.SimulatorLaws.{simulatorLaw, simulate-sheet, simulate-timetable, simulate-read}
 use Rattle.rules.proofs.SimulationExactLaws.{textExact, numbersTell}
 use Rattle.rules.proofs.TrialLaws.{trialBound}
+use Rattle.frames.proofs.PlanLaws.{plan-on}
 use Rattle.frames.specs.Demands.{MarkerDemands, PlannerDemands, AwareDemands, PlainDemands, TwoTrialsATask, SimulatorDemands}
-use Rattle.frames.proofs.FaultLaws.{marked-by-sheet, marked-by-paper, planned-by-sheet, sheet-numbers}
+use Rattle.rules.proofs.FaultLaws.{marked-by-sheet, marked-by-paper, planned-by-sheet, sheet-numbers}
 
 -- ---- the marker
 mark-demands : (sheet paper : List ℕ) → MarkerDemands sheet paper (mark sheet paper)
@@ -38,6 +45,8 @@ mark-demands sheet paper = record {
     (λ e. scheduleFaults I paper w k .0 (marked-by-paper w k I s (markCall sheet paper) (ap (λ v. v .number) e) (ap (λ v. v .place) e))),
     (λ f. mark-timetable sheet paper I w k s (scheduleFaults I paper w k .1 f)),
   );
+  kept = keptMarks sheet paper;
+  changed = changedMarks sheet paper;
 }
 
 pub marker-demands : (sheet paper : List ℕ) {v : Verdict} → v ≡ mark sheet paper → MarkerDemands sheet paper v
@@ -50,6 +59,9 @@ module _ (R : Planner) (sheet buffer : List ℕ) where
   never-short (by21 I e k t o) room n = omega arith
   never-short (by31 I e P t o l) room n = omega (arith, plansShort R I (sheetExact sheet I .0 e .0) P t o)
   never-short (by0 I e P t o l) room n = omega arith
+
+  written-range : (I : Instance) → readInstance sheet ≡ accepted I → {a : Answer} → Written R I buffer a → (w : Written R I buffer a) × InRange I (w .rule .schedule)
+  written-range I e w = (w, plansInRange R I (sheetExact sheet I .0 e .0) (w .rule .schedule) (w .rule .trials) (w .rule .notStuck))
 
   plan-demands : PlannerDemands R sheet buffer (plan R sheet buffer)
   plan-demands = record {
@@ -66,6 +78,8 @@ module _ (R : Planner) (sheet buffer : List ℕ) where
     marked = planMarked R sheet buffer;
     ample = λ I e ample. let C = ampleMemory R sheet I e ample in (C, C .success buffer);
     trials = λ I e. let q = plan-trials R sheet buffer I e in (q, rw q (trialBound R I));
+    inRange = λ I e n. written-range I e (plannerExact R sheet buffer I e .written n);
+    oldSheet = λ I e. plan-on R sheet buffer I (keptSheets sheet I e);
   }
 
   pub planner-demands : {a : Answer} → a ≡ plan R sheet buffer → PlannerDemands R sheet buffer a
@@ -98,6 +112,7 @@ module _ (sheet paper : List ℕ) (made steps : ℕ) where
       (λ e. mark-demands sheet paper .paperFault I s w k .0 (textExact sheet paper made steps (faultNumber inTimetable w) k .0 e .0)),
       (λ f. ap (λ a. a .progress) (simulate-timetable sheet paper I w k s (scheduleFaults I paper w k .1 f) made steps)),
     );
+    oldTexts = λ I P c e f. simulate-read sheet paper I P c (keptSheets sheet I e) (keptTimetables I paper P c f) made steps;
   }
 
   pub simulator-demands : {a : Simulation} → a ≡ simulate sheet paper made steps → SimulatorDemands sheet paper made steps a

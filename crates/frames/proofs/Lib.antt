@@ -1,5 +1,4 @@
 -- The demands, from rules' promises.
-pub mod FaultLaws
 pub mod DemandLaws
 -- the marker, by what was read
 pub mod MarkLaws

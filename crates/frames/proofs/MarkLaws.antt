@@ -11,7 +11,7 @@ use Rattle.rules.specs.InstanceText as Sheet
 use Rattle.rules.specs.InstanceText.{readInstance}
 use Rattle.rules.specs.ScheduleText as Paper
 use Rattle.rules.specs.ScheduleText.{readSchedule}
-use Rattle.rules.specs.Calls.{markOn, mark, lineAt, faultLine}
+use Rattle.rules.specs.Calls.{markOn, markBy, mark, lineAt, faultLine}
 use Rattle.text.specs.declared.faults.Fault.{Fault}
 use Rattle.text.specs.Faults.{asFault}
 use Rattle.model.specs.declared.layout.Shape.{Shape}
@@ -24,16 +24,16 @@ use Rattle.instance.proofs.AcceptedLaws.{read-accepted, read-refused}
 -- ---- the answer
 
 mark-refused : (sheet timetable : List ℕ) {w : _} (k : ℕ) → readInstance sheet ≡ Sheet.refused w k → mark sheet timetable ≡ refusedBy (faultNumber inSheet w) k
-unfolding mark
-mark-refused sheet timetable k e = rw (e, mark)
+unfolding markBy
+mark-refused sheet timetable k e = rw (e, markBy)
 
 mark-accepted : (sheet timetable : List ℕ) (I : Instance) → readInstance sheet ≡ Sheet.accepted I → mark sheet timetable ≡ markOn I timetable
-unfolding mark
+unfolding markBy
 mark-accepted sheet timetable I e = by-read (readSchedule I timetable) refl
   where
     by-read : (x : Paper.ScheduleRead) → readSchedule I timetable ≡ x → mark sheet timetable ≡ markOn I timetable
-    by-read (Paper.refused w k) f = rw (e, f, mark)
-    by-read (Paper.read P c) f = rw (e, f, mark)
+    by-read (Paper.refused w k) f = rw (e, f, markBy)
+    by-read (Paper.read P c) f = rw (e, f, markBy)
 
 module _ (sheet timetable xs : List ℕ) (r : InstanceRead) (read : asInstance r xs ≡ readInstance sheet) where
   pub marked-on : {b : Shape} {v : Verdict} → r ≡ SheetRead.Accepted b → v ≡ markOn (instanceFrom b (jobOf xs)) timetable → v ≡ mark sheet timetable

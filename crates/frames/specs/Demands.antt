@@ -1,22 +1,24 @@
 -- The demands as clauses of the public contracts: what rules' promises say of the answer at hand.
-use Prim.Native.Nat.{ℕ, _+_, _*_, _≤_}
+use Prim.Native.Nat.{ℕ, _+_, _*_, _≤_, min}
 use mathlib.Core.Path.{_≡_}
 use mathlib.Core.Logic.{_↔_}
 use mathlib.Core.List.{List}
 use lib.ListN.{length}
-use Rattle.rules.specs.Limits.{maxText}
-use Rattle.rules.specs.Model.{Instance, taskCount}
-use Rattle.rules.specs.Validity.{Verdict, refusedBy}
+use Rattle.rules.specs.Limits.{maxText, maxSteps, former}
+use Rattle.rules.specs.Model.{Instance, taskCount, Schedule}
+use Rattle.rules.specs.Validity.{Claim, Verdict, refusedBy}
 use Rattle.rules.specs.Scheduling.{Planner, parentOf, outcome}
 use Rattle.rules.specs.Text.{Fault, inSheet, inTimetable, faultNumber}
-use Rattle.rules.specs.InstanceText.{accepted, readInstance}
-use Rattle.rules.specs.Calls.{Answer, planText, plan}
-use Rattle.rules.specs.Promises.{MarkedOrRefused, MarkedExactly, WrittenOrRefused, PlannedExactly, AcceptedBack, Completes, Ample, trialsOf}
+use Rattle.rules.specs.InstanceText.{accepted, readInstanceBy, readInstance}
+use Rattle.rules.specs.ScheduleText.{read, readScheduleBy}
+use Rattle.rules.specs.Calls.{Answer, markBy, planText, planOn, plan}
+use Rattle.rules.specs.Promises.{MarkedOrRefused, MarkedExactly, WrittenOrRefused, Written, PlannedExactly, AcceptedBack, Completes, Ample, trialsOf}
 use Rattle.rules.specs.CallsExact.{Marking, Planned}
 use Rattle.rules.specs.PlainPlanners.{PlannedPlainly, MarkedBack}
+use Rattle.rules.specs.FinerTicks.{Outgrown, KeptMark, InRange}
 use Rattle.rules.specs.SheetFaults.{SheetFault}
 use Rattle.rules.specs.ScheduleFaults.{ScheduleFault}
-use Rattle.rules.specs.Simulation.{Simulation, refusedBy as refusedText}
+use Rattle.rules.specs.Simulation.{Simulation, watch, refusedBy as refusedText}
 use Rattle.rules.specs.SimulationPromises.{Simulated}
 use Rattle.rules.specs.SimulationExact.{Told}
 
@@ -33,6 +35,10 @@ pub record MarkerDemands (sheet paper : List ℕ) (v : Verdict) : Type 0 where
   -- for an accepted sheet, 11 to 14 at k exactly if the paper has that fault first, at line k. Not: 14 at line 1 for every paper refused
   pub paperFault : (I : Instance) → readInstance sheet ≡ accepted I → (w : Fault) (k : ℕ)
       → (v ≡ refusedBy (faultNumber inTimetable w) k) ↔ ScheduleFault I paper w k
+  -- Order 5: the mark that the former widths give, or that one refuses a line for a number too long or too large. Not: an old paper's licence lost
+  pub kept : KeptMark sheet paper v
+  -- and such a refusal is not given now. Not: ten digits refused as they were
+  pub changed : Outgrown sheet paper (markBy former sheet paper) → v ≡ markBy former sheet paper → ⊥
 
 -- what every planner's answer a promises, with the bytes that the lent buffer then holds
 pub record PlannerDemands (R : Planner) (sheet buffer : List ℕ) (a : Answer) : Type 0 where
@@ -54,6 +60,10 @@ pub record PlannerDemands (R : Planner) (sheet buffer : List ℕ) (a : Answer) :
       → (C : Completes R sheet I) × (length (planText I (C .schedule)) ≤ length buffer → a .number ≡ 0)
   -- for an accepted sheet the trials are those of the rule, also after 21 and 31, and at most n × (n + 1). Not: a made-up count
   pub trials : (I : Instance) → readInstance sheet ≡ accepted I → (a .trials ≡ trialsOf (outcome R I)) × (a .trials ≤ taskCount I * (taskCount I + 1))
+  -- Order 5: every number of what was written is in its range. Not: a start that the marker cannot read. Alone it is met by a planner that never succeeds
+  pub inRange : (I : Instance) → readInstance sheet ≡ accepted I → a .number ≡ 0 → (w : Written R I buffer a) × InRange I (w .rule .schedule)
+  -- a sheet that the former widths accept is planned as it was: by the rule, for the job that they read. Not: another plan for an old sheet
+  pub oldSheet : (I : Instance) → readInstanceBy former sheet ≡ accepted I → a ≡ planOn R I buffer
 
 -- what the answer of a memory-aware planner promises besides
 pub record AwareDemands (R : Planner) (sheet buffer : List ℕ) (a : Answer) : Type 0 where
@@ -90,3 +100,6 @@ pub record SimulatorDemands (sheet paper : List ℕ) (made steps : ℕ) (a : Sim
   -- for an accepted sheet, 11 to 14 at k exactly if the paper has that fault first, at line k. Not: a paper with no claim walked through
   pub paperFault : (I : Instance) → readInstance sheet ≡ accepted I → (w : Fault) (k : ℕ)
       → (a .progress ≡ refusedText (faultNumber inTimetable w) k) ↔ ScheduleFault I paper w k
+  -- Order 5: texts that the former widths read are walked through as they were. Not: another state for an old timetable
+  pub oldTexts : (I : Instance) (P : Schedule) (c : Claim) → readInstanceBy former sheet ≡ accepted I → readScheduleBy former I paper ≡ read P c
+      → a ≡ watch I P (made + min steps maxSteps)

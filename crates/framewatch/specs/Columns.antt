@@ -12,6 +12,10 @@ mostDigits = 20
 abbrev pub rowColumn : ℕ
 rowColumn = 19
 
+-- a memory's limit takes at most so many, and its total too
+abbrev pub limitColumns : ℕ
+limitColumns = 9
+
 -- a file takes at most so many: two task numbers, its size, and whether it is moving
 abbrev pub fileColumns : ℕ
 fileColumns = 22

@@ -2,12 +2,12 @@
 ghost use mathlib.Core.Path.{_≡_};
 ghost use Prim.Native.Nat.{_+_, _<_, _≤_};
 ghost use lib.ListN.{getD};
-ghost use Rattle.rules.specs.Limits.{maxDigits, maxTasks, fileSizes, memoryLimits};
+ghost use Rattle.rules.specs.Limits.{maxTasks, fileSizes, memoryLimits};
 ghost use Rattle.rules.specs.Count.{sumWhere};
 ghost use Rattle.rules.specs.SimulationPromises.{isIn};
 ghost use Rattle.model.specs.Colours.{asColour};
 ghost use Rattle.model.specs.Layout.{JobInBounds, jobOf, mostHeld};
-ghost use Rattle.framewatch.specs.Columns.{width, rowColumn, fileColumns};
+ghost use Rattle.framewatch.specs.Columns.{width, rowColumn, limitColumns, fileColumns};
 use crate::line::Line;
 use model::choice::greater;
 use model::choice::value_if;
@@ -116,7 +116,7 @@ fn files<'a>(
 // The columns that the greater limit of the board takes.
 fn limit_columns(shape: Shape) -> usize
     requires { ⌜ (shape .board .blue .limit ≤ memoryLimits .most) × (shape .board .red .limit ≤ memoryLimits .most) ⌝ }
-    ensures { λ r. ⌜ r ≤ maxDigits ⌝ }
+    ensures { λ r. ⌜ r ≤ limitColumns ⌝ }
 {
     text::number_size(greater(shape.board.blue.limit, shape.board.red.limit))
 }

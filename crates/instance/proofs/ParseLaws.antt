@@ -8,7 +8,7 @@ use native.Mathlib.Omega.{arith}
 use lib.ListN.{getD}
 use Rattle.rules.specs.Text.{ended, scan, Reading, wrong, right, outOfRange, malformed, ifInRange, orElse}
 use Rattle.rules.specs.BoardType.{sideFrom, checkedBoard}
-use Rattle.rules.specs.InstanceText.{InstanceLine, boardLine, boardForm, taskForm, fileForm, asBoard, asTask, asFile, instanceLine}
+use Rattle.rules.specs.InstanceText.{InstanceLine, boardLine, boardForm, taskForm, fileForm, asBoard, asTask, asFile, instanceLineBy, instanceLine}
 use Rattle.rules.specs.Limits.{processorCounts, memoryLimits, inRange}
 use Rattle.rules.specs.declared.Side.{Side}
 use Rattle.rules.specs.declared.Checked.{Checked}
@@ -47,22 +47,22 @@ form-missed f other (some vs) e = let z : _≡_ {A = ℕ} 0 1 = cc in absurd (om
 
 module _ (l : List ℕ) {a b c d : ℕ} where
   pub says-board : numbersOf (scan boardForm l) ≡ Are a b c d → instanceLine (ended l) ≡ asBoard (a ∷ b ∷ c ∷ d ∷ [])
-  unfolding instanceLine
+  unfolding instanceLineBy
   says-board e = form-found asBoard (λ vs. refl) _ (scan boardForm l) e
 
   module _ (no-board : numbersOf (scan boardForm l) ≡ Not) where
     pub says-task : numbersOf (scan taskForm l) ≡ Are a b c d → instanceLine (ended l) ≡ asTask (a ∷ b ∷ c ∷ [])
-    unfolding instanceLine
+    unfolding instanceLineBy
     says-task e = rw (form-missed asBoard _ (scan boardForm l) no-board) (form-found asTask (λ vs. refl) _ (scan taskForm l) e)
 
     pub says-file : numbersOf (scan taskForm l) ≡ Not → numbersOf (scan fileForm l) ≡ Are a b c d → instanceLine (ended l) ≡ asFile (a ∷ b ∷ c ∷ d ∷ [])
-    unfolding instanceLine
+    unfolding instanceLineBy
     says-file no-task e =
         rw (form-missed asBoard _ (scan boardForm l) no-board, form-missed asTask _ (scan taskForm l) no-task)
         (form-found asFile (λ vs. refl) _ (scan fileForm l) e)
 
 pub says-nothing : (l : List ℕ) → numbersOf (scan boardForm l) ≡ Not → numbersOf (scan taskForm l) ≡ Not → numbersOf (scan fileForm l) ≡ Not
     → instanceLine (ended l) ≡ wrong malformed
-unfolding instanceLine
+unfolding instanceLineBy
 says-nothing l no-board no-task no-file =
     rw (form-missed asBoard _ (scan boardForm l) no-board, form-missed asTask _ (scan taskForm l) no-task, form-missed asFile _ (scan fileForm l) no-file)

@@ -10,7 +10,7 @@ use lib.ListN.{length, take, drop, length-take, length-drop, drop-of-length-le}
 use Rattle.rules.specs.Limits.{maxText}
 use Rattle.rules.specs.Model.{Instance}
 use Rattle.rules.specs.Text.{Fault, tooLong, malformed, Line, ended, unended, linesOf, wrong, right, due}
-use Rattle.rules.specs.InstanceText.{InstanceLine, refused, accepted, withBoard, withLine, instanceLine, readRest, readLines, readInstance}
+use Rattle.rules.specs.InstanceText.{InstanceLine, refused, accepted, withBoard, withLine, instanceLineBy, instanceLine, readRestBy, readRest, readLinesBy, readLines, readInstanceBy, readInstance}
 use Rattle.rules.proofs.InstanceLineLaws.{line-says}
 use Rattle.text.specs.FirstLine.{firstLine}
 use Rattle.text.proofs.FirstLineLaws.{no-line, line-within, line-part, line-unended}
@@ -39,27 +39,27 @@ told f p l step known ys parsed added e = rw (← e, ← parsed) added
 -- ---- the definitions, one line at a time
 module _ (I : Instance) (k : ℕ) where
   rest-wrong : (l : Line) (ls : List Line) (w : Fault) → due (withLine I) (instanceLine l) ≡ wrong w → readRest I k (l ∷ ls) ≡ refused w k
-  unfolding readRest
-  rest-wrong l ls w e = rw (e, readRest)
+  unfolding readRestBy
+  rest-wrong l ls w e = rw (e, readRestBy)
 
   rest-right : (l : Line) (ls : List Line) (J : Instance) → due (withLine I) (instanceLine l) ≡ right J → readRest I k (l ∷ ls) ≡ readRest J (suc k) ls
-  unfolding readRest
-  rest-right l ls J e = rw (e, readRest)
+  unfolding readRestBy
+  rest-right l ls J e = rw (e, readRestBy)
 
   rest-unended : (l : List ℕ) (ls : List Line) → readRest I k (unended l ∷ ls) ≡ refused malformed k
-  unfolding readRest instanceLine
+  unfolding readRestBy instanceLineBy
   rest-unended l ls = refl
 
 lines-wrong : (l : Line) (ls : List Line) (w : Fault) → due withBoard (instanceLine l) ≡ wrong w → readLines (l ∷ ls) ≡ refused w 1
-unfolding readLines
-lines-wrong l ls w e = rw (e, readLines)
+unfolding readLinesBy
+lines-wrong l ls w e = rw (e, readLinesBy)
 
 lines-right : (l : Line) (ls : List Line) (I : Instance) → due withBoard (instanceLine l) ≡ right I → readLines (l ∷ ls) ≡ readRest I 2 ls
-unfolding readLines
-lines-right l ls I e = rw (e, readLines)
+unfolding readLinesBy
+lines-right l ls I e = rw (e, readLinesBy)
 
 one-line : (sheet : List ℕ) → length (firstLine sheet) ≡ length sheet → readLines (linesOf sheet) ≡ refused malformed 1
-unfolding readLines instanceLine
+unfolding readLinesBy instanceLineBy
 one-line [] l = rw no-line
 one-line (b ∷ sheet) l = rw (line-unended (b ∷ sheet) (omega arith) l)
 
@@ -107,23 +107,23 @@ module _ {begun : Shape} {sheet old : List ℕ} {shape : Shape} {xs rest : List 
     none-left = inv .left ∙ rw (drop-of-length-le rest {i = 0} h, no-line)
 
     pub reading-absent : shape .tasks ≡ 0 → refused malformed k ≡ readRest (instanceFrom begun (jobOf old)) 2 (linesOf sheet)
-    unfolding readRest
+    unfolding readRestBy
     reading-absent z = sym (none-left ∙ rw (task-count shape (jobOf xs), eq-eqb _ _ z))
 
     pub reading-done : (shape .tasks ≡ 0 → ⊥) → accepted (instanceFrom shape (jobOf xs)) ≡ readRest (instanceFrom begun (jobOf old)) 2 (linesOf sheet)
-    unfolding readRest
+    unfolding readRestBy
     reading-done z = sym (none-left ∙ rw (task-count shape (jobOf xs), ne-eqb _ _ z))
 
 -- ---- the whole sheet
 module _ (sheet : List ℕ) where
   pub sheet-long : maxText < length sheet → refused tooLong 0 ≡ readInstance sheet
-  unfolding readInstance
-  sheet-long h = rw (lt-leb _ _ h, readInstance)
+  unfolding readInstanceBy
+  sheet-long h = rw (lt-leb _ _ h, readInstanceBy)
 
   module _ (h : length sheet ≤ maxText) where
     by-lines : readInstance sheet ≡ readLines (linesOf sheet)
-    unfolding readInstance
-    by-lines = rw (le-leb _ _ h, readInstance)
+    unfolding readInstanceBy
+    by-lines = rw (le-leb _ _ h, readInstanceBy)
 
     module _ (line : List ℕ) (e : line ≡ firstLine sheet) where
       pub sheet-unended : length line ≡ length sheet → refused malformed 1 ≡ readInstance sheet

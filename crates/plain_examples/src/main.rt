@@ -61,6 +61,15 @@ fn show_short() {
     io::write_all(STDOUT_FILENO, b"\n");
 }
 
+// Times of up to 1000000000 ticks (Order 5).
+fn nanoseconds() {
+    // a move of one tick less than the run that it saves; and of as many, where blue is taken
+    show(b"move_pays.sheet");
+    show(b"move_ties.sheet");
+    // the memory-aware planners let task 3 wait for memory until tick 2000000000, the plain ones start it at 0
+    show(b"seconds.sheet");
+}
+
 fn main() {
     // the course example: limits of 6, all files together 5; each planner writes its plain parent's timetable
     show(b"course.sheet");
@@ -91,4 +100,5 @@ fn main() {
     // a refused sheet: each planner refuses it, with 0 trials
     show(b"refused_line.sheet");
     show_short();
+    nanoseconds();
 }

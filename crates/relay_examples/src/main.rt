@@ -242,11 +242,11 @@ fn last() {
     );
 }
 
-// The same at the last tick that a timetable can name.
+// The same at a tick of nine digits.
 fn last_tick() {
     let paper = b"(run 1 1 999999999)\n(run 2 1 999999999)\n(claim 999999999 5 0)\n";
     show(
-        b"a relay at the last tick that can be written",
+        b"a relay at tick 999999999",
         b"(board (blue 1 5) (red 1 0))\n(task 1 0 9)\n(task 2 0 9)\n(file 1 2 5 1)\n",
         paper,
     );

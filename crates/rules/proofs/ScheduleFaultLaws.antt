@@ -14,7 +14,7 @@ use Rattle.rules.specs.Model.{Instance, taskCount, fileCount, fileAt, Ru
 use Rattle.rules.specs.Validity.{Claim}
 use Rattle.rules.specs.Text.{Fault, tooLong, malformed, undue, Line, linesOf, wrong, right, due}
 use Rattle.rules.specs.ScheduleText.{ScheduleLine, runLine, moveLine, claimLine, scheduleLine, runOf, moveOf, claimOf, ScheduleRead, refused}
-use Rattle.rules.specs.ScheduleText.{readEnd, readClaim, readMoves, readRuns, readSchedule}
+use Rattle.rules.specs.ScheduleText.{readEndBy, readEnd, readClaimBy, readMovesBy, readMoves, readRunsBy, readRuns, readScheduleBy, readSchedule}
 use Rattle.rules.specs.Promises.{First}
 use Rattle.rules.specs.ScheduleFaults.{DueLine, run, move, claim, end, SoFar, before, behind, StillMoves, Due, nextRun, nextMove, lastly}
 use Rattle.rules.specs.ScheduleFaults.{nothing, NotDue, otherTask, moveForRun, claimForRun, otherMaker, otherReader, runForMove, claimForMove}
@@ -119,9 +119,9 @@ module _ (I : Instance) where
   module _ (runs : List Run) (left : ℕ) (e : length runs + suc left ≡ taskCount I) where
     run-steps : (k : ℕ) (ls : List Line) → readRuns I (suc left) (record { runs = runs; moves = [] }) k ls
         ≡ onLines (runOf (suc (length runs))) (λ r. readRuns I left (record { runs = runs ++ (r ∷ []); moves = [] })) k ls
-    unfolding readRuns
+    unfolding readRunsBy
     run-steps k [] = refl
-    run-steps k (l ∷ ls) = let z : taskCount I - suc left ≡ length runs = omega arith in rw (z, readRuns)
+    run-steps k (l ∷ ls) = let z : taskCount I - suc left ≡ length runs = omega arith in rw (z, readRunsBy)
 
     run-turn : Turn runs 0 (readRuns I (suc left) (record { runs = runs; moves = [] }))
     run-turn = record {
@@ -153,17 +153,17 @@ module _ (I : Instance) where
 
       move-steps : moved I (withMoves []) (length moves) ≡ true → (k : ℕ) (ls : List Line) → readMoves I (suc left) (withMoves moves) k ls
           ≡ onLines (moveFor (length moves)) (λ t. readMoves I left (withMoves (moves ++ (t ∷ [])))) k ls
-      unfolding readMoves
-      move-steps m k [] = rw (at-file, m, readMoves)
-      move-steps m k (l ∷ ls) = rw (at-file, m, at-file, readMoves)
+      unfolding readMovesBy
+      move-steps m k [] = rw (at-file, m, readMovesBy)
+      move-steps m k (l ∷ ls) = rw (at-file, m, at-file, readMovesBy)
 
       move-passes : moved I (withMoves []) (length moves) ≡ false → (k : ℕ) (ls : List Line)
           → readMoves I (suc left) (withMoves moves) k ls ≡ readMoves I left (withMoves (moves ++ (0 ∷ []))) k ls
-      unfolding readMoves
-      move-passes m k ls = rw (at-file, m, readMoves)
+      unfolding readMovesBy
+      move-passes m k ls = rw (at-file, m, readMovesBy)
 
     claim-steps : (moves : List ℕ) (k : ℕ) (ls : List Line) → readMoves I 0 (withMoves moves) k ls ≡ onLines claimOf (readEnd I (withMoves moves)) k ls
-    unfolding readMoves readClaim
+    unfolding readMovesBy readClaimBy
     claim-steps moves k [] = refl
     claim-steps moves k (l ∷ ls) = refl
 
@@ -248,7 +248,7 @@ module _ (I : Instance) where
           ]
 
   runs-read : (P : Schedule) (k : ℕ) (ls : List Line) → readRuns I 0 P k ls ≡ readMoves I (fileCount I) P k ls
-  unfolding readRuns
+  unfolding readRunsBy
   runs-read P k ls = refl
 
   turn : {runs : List Run} {files : ℕ} (p : Place (before runs files)) → Turn runs files (readAt p)
@@ -289,7 +289,7 @@ module _ (I : Instance) where
       record { ahead = 0; place = omega arith; fault = subst (FirstBad I s ls 0) x b }
 
   end-bad : (P : Schedule) (c : Claim) (k : ℕ) (ls : List Line) (w : Fault) (j : ℕ) → readEnd I P c k ls ≡ refused w j → Placed behind k ls w j
-  unfolding readEnd
+  unfolding readEndBy
   end-bad P c k [] w j e = let z : _≡_ {A = ℕ} 0 1 = cc in absurd (omega arith)
   end-bad P c k (l ∷ ls) w j e =
       by-reading (scheduleLine I l)
@@ -319,7 +319,7 @@ module _ (I : Instance) where
   here-too w k = let z : k ≡ k + 0 = omega arith in ap (refused w) z
 
   bad-end : (P : Schedule) (c : Claim) (k : ℕ) (ls : List Line) (n : ℕ) (w : Fault) → FirstBad I behind ls n w → readEnd I P c k ls ≡ refused w (k + n)
-  unfolding readEnd
+  unfolding readEndBy
   bad-end P c k _ _ w (unread d) = rw d (here-too w k)
   bad-end P c k _ _ _ (another d x h e q) = rw e (here-too undue k)
 
@@ -352,12 +352,12 @@ module _ (I : Instance) where
 
   module _ (bs : List ℕ) where
     read-long : maxText < length bs → readSchedule I bs ≡ refused tooLong 0
-    unfolding readSchedule
-    read-long h = rw (lt-leb _ _ h, readSchedule)
+    unfolding readScheduleBy
+    read-long h = rw (lt-leb _ _ h, readScheduleBy)
 
     read-short : length bs ≤ maxText → readSchedule I bs ≡ readAt start 1 (linesOf bs)
-    unfolding readSchedule
-    read-short h = rw (le-leb _ _ h, readSchedule)
+    unfolding readScheduleBy
+    read-short h = rw (le-leb _ _ h, readScheduleBy)
 
     fault-refused : (w : Fault) (k : ℕ) → ScheduleFault I bs w k → readSchedule I bs ≡ refused w k
     fault-refused _ _ (long h) = read-long h

@@ -8,9 +8,9 @@ use lib.Dec.{T, eqb}
 use Rattle.rules.specs.Count.{sumBelow, maxBelow, anyBelow, firstBelow, listBelow, listWhere}
 use Rattle.rules.specs.Limits.{allProcessors, maxFiles}
 use Rattle.rules.specs.Residency.{holdBy, held, horizon}
-use Rattle.rules.specs.Text.{ascii, linesOf, digitsOf, decimalBy, decimal, scan, fill}
-use Rattle.rules.specs.InstanceText.{instanceLine, readRest, readLines, readInstance}
-use Rattle.rules.specs.ScheduleText.{scheduleLine, readEnd, readClaim, readMoves, readRuns, readSchedule}
+use Rattle.rules.specs.Text.{ascii, linesOf, digitsOf, decimalBy, decimal, scanBy, fill}
+use Rattle.rules.specs.InstanceText.{instanceLineBy, readRestBy, readLinesBy, readInstanceBy}
+use Rattle.rules.specs.ScheduleText.{scheduleLineBy, readEndBy, readClaimBy, readMovesBy, readRunsBy, readScheduleBy}
 use Rattle.rules.specs.Validity.{overlap, over, makespan}
 use Rattle.rules.specs.Simulation.{Progress, refusedBy, stepsLeft, stopped, ended, numberOf, placeOf, leftOf, spanOf, runningOn, heldIn, stateAt, isTurn, sharesAt, earlyAt, faultAt, closing, firstFaulty, stepTicks, stepCount, progressOf, watch, simulate}
 use Rattle.rules.specs.Examples.{sheet, sheetA, textA}
@@ -42,9 +42,9 @@ pub holds : Row → Bool
 unfolding isFilled sameProgress
     sumBelow maxBelow anyBelow firstBelow listBelow listWhere
     holdBy held horizon overlap over makespan
-    linesOf digitsOf decimalBy decimal scan fill
-    instanceLine readRest readLines readInstance
-    scheduleLine readEnd readClaim readMoves readRuns readSchedule
+    linesOf digitsOf decimalBy decimal scanBy fill
+    instanceLineBy readRestBy readLinesBy readInstanceBy
+    scheduleLineBy readEndBy readClaimBy readMovesBy readRunsBy readScheduleBy
     runningOn heldIn stateAt isTurn sharesAt earlyAt faultAt closing firstFaulty stepTicks stepCount progressOf watch simulate
 holds r =
     let a = simulate (r .sheet) (r .timetable) (r .made) (r .steps) in

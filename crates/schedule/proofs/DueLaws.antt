@@ -12,7 +12,7 @@ use lib.ListN.{drop}
 use Rattle.rules.specs.Model.{Instance, taskCount, fileCount, fileAt, Run, Schedule, moved}
 use Rattle.rules.specs.Validity.{Claim}
 use Rattle.rules.specs.Text.{Fault, malformed, Line, linesOf, Reading, wrong, right, due, faultOf}
-use Rattle.rules.specs.ScheduleText.{ScheduleLine, scheduleLine, runOf, moveOf, claimOf, ScheduleRead, refused, readEnd, readClaim, readMoves, readRuns}
+use Rattle.rules.specs.ScheduleText.{ScheduleLine, scheduleLine, runOf, moveOf, claimOf, ScheduleRead, refused, readEndBy, readEnd, readClaimBy, readClaim, readMovesBy, readMoves, readRunsBy, readRuns}
 use Rattle.rules.specs.ScheduleText.{withRun, withMove}
 use Rattle.rules.proofs.ReadingLaws.{wrong-right}
 use Rattle.schedule.proofs.lines.Line.{the-type}
@@ -54,7 +54,7 @@ module _ (I : Instance) (P : Schedule) (k : ℕ) where
   runRest left r ls = readRuns I left (withRun P r) (suc k) ls
 
   runs-due : (left : ℕ) (ls : List Line) → readRuns I (suc left) P k ls ≡ onDue I (runOf (suc (taskCount I - suc left))) k (runRest left) ls
-  unfolding readRuns
+  unfolding readRunsBy
   runs-due left [] = refl
   runs-due left (l ∷ ls) = refl
 
@@ -63,19 +63,19 @@ module _ (I : Instance) (P : Schedule) (k : ℕ) where
 
   moves-due : (left : ℕ) → moved I P (fileCount I - suc left) ≡ true → (ls : List Line)
       → readMoves I (suc left) P k ls ≡ onDue I (fileDue I (fileCount I - suc left)) k (moveRest left) ls
-  unfolding readMoves
-  moves-due left m [] = rw (m, readMoves)
-  moves-due left m (l ∷ ls) = rw (m, readMoves)
+  unfolding readMovesBy
+  moves-due left m [] = rw (m, readMovesBy)
+  moves-due left m (l ∷ ls) = rw (m, readMovesBy)
 
   moves-pass : (left : ℕ) → moved I P (fileCount I - suc left) ≡ false → (ls : List Line) → readMoves I (suc left) P k ls ≡ readMoves I left (withMove P 0) k ls
-  unfolding readMoves
-  moves-pass left m ls = rw (m, readMoves)
+  unfolding readMovesBy
+  moves-pass left m ls = rw (m, readMovesBy)
 
   abbrev claimRest : Claim → List Line → ScheduleRead
   claimRest c ls = readEnd I P c (suc k) ls
 
   claim-due : (ls : List Line) → readClaim I P k ls ≡ onDue I claimOf k claimRest ls
-  unfolding readClaim
+  unfolding readClaimBy
   claim-due [] = refl
   claim-due (l ∷ ls) = refl
 
@@ -117,12 +117,12 @@ module _ {I : Instance} {bs : List ℕ} {at : ℕ} {x : Reading ScheduleLine} {n
 
   -- a line where none is due
   pub end-refused : (c : Claim) → (linesOf (drop at bs) ≡ [] → ⊥) → readEnd I P c k (linesOf (drop at bs)) ≡ refused (faultOf x) k
-  unfolding readEnd
+  unfolding readEndBy
   end-refused c h = go o
     where
       go : LineAt I bs at x next → readEnd I P c k (linesOf (drop at bs)) ≡ refused (faultOf x) k
       go (absent e q) = absurd (h e)
-      go (there l e q) = rw (e, q, readEnd)
+      go (there l e q) = rw (e, q, readEndBy)
 
 pub move-passed : (I : Instance) (P : Schedule) (k f : ℕ) → f < fileCount I → moved I P f ≡ false → (ls : List Line)
     → readMoves I (fileCount I - f) P k ls ≡ readMoves I (fileCount I - suc f) (withMove P 0) k ls

@@ -7,7 +7,7 @@ use lib.ListN.{length, take, drop, length-drop, drop-of-length-le}
 use lib.Seq.{drop-drop, drop-length}
 use Rattle.rules.specs.Model.{Instance}
 use Rattle.rules.specs.Text.{ended, unended, linesOf, Reading, wrong, malformed}
-use Rattle.rules.specs.ScheduleText.{ScheduleLine, scheduleLine}
+use Rattle.rules.specs.ScheduleText.{ScheduleLine, scheduleLineBy, scheduleLine}
 use Rattle.rules.proofs.Tests.{by-order}
 use Rattle.text.specs.FirstLine.{firstLine}
 use Rattle.text.proofs.PartLaws.{tail-part}
@@ -15,7 +15,7 @@ use Rattle.text.proofs.FirstLineLaws.{no-line, line-within, line-behind, line-u
 use Rattle.schedule.specs.Reading.{LineAt, absent, there}
 
 unended-wrong : (I : Instance) (l : List ℕ) → wrong malformed ≡ scheduleLine I (unended l)
-unfolding scheduleLine
+unfolding scheduleLineBy
 unended-wrong I l = refl
 
 module _ (bs line : List ℕ) (at : ℕ) (e : line ≡ firstLine (take (length bs - at) (drop at bs))) where

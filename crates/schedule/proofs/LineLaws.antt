@@ -8,7 +8,7 @@ use native.Mathlib.Omega.{arith}
 use lib.ListN.{getD}
 use Rattle.rules.specs.Model.{Instance, processorCount}
 use Rattle.rules.specs.Text.{ended, scan, wrong, right, malformed, outOfRange, ifInRange}
-use Rattle.rules.specs.ScheduleText.{runForm, moveForm, claimForm, asRun, asMove, asClaim, scheduleLine}
+use Rattle.rules.specs.ScheduleText.{runForm, moveForm, claimForm, asRun, asMove, asClaim, scheduleLineBy, scheduleLine}
 use Rattle.text.specs.declared.forms.Numbers.the-variants.{Are, Not}
 use Rattle.text.specs.ReadNumbers.{numbersOf}
 use Rattle.model.specs.declared.layout.Shape.{Shape}
@@ -48,21 +48,21 @@ no-form (some vs) e = let q : _≡_ {A = ℕ} 0 1 = cc in absurd (omega arith)
 
 module _ (I : Instance) (l : List ℕ) where
   pub line-run : (x y z w : ℕ) → numbersOf (scan runForm l) ≡ Are x y z w → scheduleLine I (ended l) ≡ asRun I (x ∷ y ∷ z ∷ [])
-  unfolding scheduleLine
+  unfolding scheduleLineBy
   line-run x y z w e = let n = three (scan runForm l) x y z w e in rw (n .are, n .first, n .second, n .third)
 
   module _ (r : numbersOf (scan runForm l) ≡ Not) where
     pub line-move : (x y z w : ℕ) → numbersOf (scan moveForm l) ≡ Are x y z w → scheduleLine I (ended l) ≡ asMove (x ∷ y ∷ z ∷ [])
-    unfolding scheduleLine
+    unfolding scheduleLineBy
     line-move x y z w e = let n = three (scan moveForm l) x y z w e in rw (no-form (scan runForm l) r, n .are, n .first, n .second, n .third)
 
     module _ (m : numbersOf (scan moveForm l) ≡ Not) where
       pub line-claim : (x y z w : ℕ) → numbersOf (scan claimForm l) ≡ Are x y z w → scheduleLine I (ended l) ≡ asClaim (x ∷ y ∷ z ∷ [])
-      unfolding scheduleLine
+      unfolding scheduleLineBy
       line-claim x y z w e =
           let n = three (scan claimForm l) x y z w e in
           rw (no-form (scan runForm l) r, no-form (scan moveForm l) m, n .are, n .first, n .second, n .third)
 
       pub line-none : numbersOf (scan claimForm l) ≡ Not → scheduleLine I (ended l) ≡ wrong malformed
-      unfolding scheduleLine
+      unfolding scheduleLineBy
       line-none e = rw (no-form (scan runForm l) r, no-form (scan moveForm l) m, no-form (scan claimForm l) e)

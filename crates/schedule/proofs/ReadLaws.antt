@@ -9,7 +9,7 @@ use Rattle.rules.specs.Model.{Instance, Schedule, taskCount, fileCount}
 use Rattle.rules.specs.Text.{tooLong, linesOf}
 use Rattle.rules.specs.Validity.{Claim}
 use Rattle.rules.specs.Promises.{Spellable}
-use Rattle.rules.specs.ScheduleText.{ScheduleRead, refused, read, readClaim, readMoves, readRuns, readSchedule}
+use Rattle.rules.specs.ScheduleText.{ScheduleRead, refused, read, readClaim, readMoves, readRuns, readScheduleBy, readSchedule}
 use Rattle.rules.proofs.TimetableOnlyLaws.{read-only}
 use Rattle.text.specs.declared.faults.Fault.{Fault}
 use Rattle.text.specs.Faults.{asFault}
@@ -29,13 +29,13 @@ in-text bs most at k r e h = subst (InText bs most) e h
 
 module _ (I : Instance) (bs : List ℕ) where
   pub read-long : maxText < length bs → refused tooLong 0 ≡ readSchedule I bs
-  unfolding readSchedule
-  read-long h = rw (lt-leb _ _ h, readSchedule)
+  unfolding readScheduleBy
+  read-long h = rw (lt-leb _ _ h, readScheduleBy)
 
   module _ (h : length bs ≤ maxText) where
     read-short : readSchedule I bs ≡ readRuns I (taskCount I) nothing 1 (linesOf bs)
-    unfolding readSchedule
-    read-short = rw (le-leb _ _ h, readSchedule)
+    unfolding readScheduleBy
+    read-short = rw (le-leb _ _ h, readScheduleBy)
 
     module _ (P Q : Schedule) (runs moves : Progress) (e : goesOn (readMoves I (fileCount I) Q) bs runs ≡ readRuns I (taskCount I) nothing 1 (linesOf bs)) where
       from-runs : {x : ScheduleRead} → x ≡ goesOn (readMoves I (fileCount I) Q) bs runs → x ≡ readSchedule I bs

@@ -17,7 +17,7 @@ use Rattle.rules.specs.Limits.{maxTasks}
 use Rattle.rules.specs.Model.{Instance, Schedule, taskCount, fileCount, moved}
 use Rattle.rules.specs.Text.{Fault, undue, Line, linesOf, Reading, wrong, right, due, faultOf}
 use Rattle.rules.specs.Validity.{Claim}
-use Rattle.rules.specs.ScheduleText.{ScheduleLine, runOf, moveOf, ScheduleRead, refused, read, readEnd, readClaim, readMoves, readRuns}
+use Rattle.rules.specs.ScheduleText.{ScheduleLine, runOf, moveOf, ScheduleRead, refused, read, readEndBy, readEnd, readClaim, readMovesBy, readMoves, readRunsBy, readRuns}
 use Rattle.rules.proofs.LineLaws.{no-lines}
 use Rattle.text.specs.declared.faults.Fault.{Fault as CodeFault}
 use Rattle.text.specs.Faults.{asFault}
@@ -40,7 +40,7 @@ use Rattle.schedule.proofs.StoreLaws.{movesOf, run-stored, move-stored}
 
 -- ---- the claim
 end-read : (I : Instance) (P : Schedule) (c : Claim) (k : ℕ) → readEnd I P c k [] ≡ read P c
-unfolding readEnd
+unfolding readEndBy
 end-read I P c k = refl
 
 some-line : (bs : List ℕ) (at : ℕ) → at < length bs → linesOf (drop at bs) ≡ [] → ⊥
@@ -78,7 +78,7 @@ unfolding listBelow
 runs-start b bs schedule = record { passed = omega arith; within = omega arith; left = λ J. rw sub-zero }
 
 runs-done : (I : Instance) (P : Schedule) (k : ℕ) (ls : List Line) → readRuns I 0 P k ls ≡ readMoves I (fileCount I) P k ls
-unfolding readRuns
+unfolding readRunsBy
 runs-done I P k ls = refl
 
 module _ {b : Shape} {bs schedule : List ℕ} {at i : ℕ} (q : RunsRead b bs schedule at i) where
@@ -175,7 +175,7 @@ unfolding listBelow
 moves-start b J bs schedule from line h = record { passed = omega arith; within = h; few = omega arith; left = rw sub-zero }
 
 moves-done : (I : Instance) (P : Schedule) (k : ℕ) (ls : List Line) → readMoves I 0 P k ls ≡ readClaim I P k ls
-unfolding readMoves
+unfolding readMovesBy
 moves-done I P k ls = refl
 
 all-moves : (b : Shape) (L : Entries) → movesOf (b .tasks) (b .files) L ≡ scheduleFrom b L

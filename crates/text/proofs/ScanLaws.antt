@@ -10,7 +10,8 @@ use borrow.Author.Tests.{eq-eqb, ne-eqb}
 use lib.Dec.{eqb}
 use lib.ListN.{length, getD, set, take, drop, length-set, drop-of-length-le}
 use lib.Seq.{drop-cons, sets, set-out}
-use Rattle.rules.specs.Text.{digitsOf, numeral, valueFrom, startsWith, andThen, scan}
+use Rattle.rules.specs.Limits.{maxDigits}
+use Rattle.rules.specs.Text.{digitsOf, numeral, valueFrom, startsWith, andThen, scanBy, scan}
 use Rattle.rules.proofs.Tests.{clash}
 use Rattle.rules.proofs.FormLaws.{scan-number, scan-no-number, scan-sign, scan-no-sign}
 use Rattle.text.specs.declared.forms.Numbers.{Numbers}
@@ -69,11 +70,11 @@ scanning-start form line = record { four = refl; behind = omega arith; left = nu
 module _ {form line found : List ℕ} {count i : ℕ} {rest : List ℕ} (r : Scanning form line found count i rest) where
   module _ (h : length form ≤ i) where
     pub scanning-end : length rest ≤ 0 → numbersOf (scan form line) ≡ numbersOf (some found)
-    unfolding scan
+    unfolding scanBy
     scanning-end g = r .left ∙ rw (drop-of-length-le form h, drop-of-length-le rest {i = 0} g)
 
     pub scanning-long : 0 < length rest → numbersOf (scan form line) ≡ Not
-    unfolding scan
+    unfolding scanBy
     scanning-long g = r .left ∙ rw (drop-of-length-le form h, drop-cons rest 0 0 g)
 
   module _ (h : i < length form) where
@@ -82,7 +83,7 @@ module _ {form line found : List ℕ} {count i : ℕ} {rest : List ℕ} (r : Sca
       digits-fit = rw e (front-within digits-front rest)
 
       pub scanning-no-number : numeral ds ≡ false → numbersOf (scan form line) ≡ Not
-      scanning-no-number n = r .left ∙ rw (drop-cons form i 0 h, scan-no-number (getD form i 0) (drop (suc i) form) rest (eq-eqb _ _ s) (rw e at n))
+      scanning-no-number n = r .left ∙ rw (drop-cons form i 0 h, scan-no-number maxDigits (getD form i 0) (drop (suc i) form) rest (eq-eqb _ _ s) (rw e at n))
 
       pub scanning-number : numeral ds ≡ true → (v : ℕ) → v ≡ valueFrom 0 ds
           → Scanning form line (set found count v) (count + 1) (i + 1) (take (length rest - length ds) (drop (length ds) rest))
@@ -94,7 +95,7 @@ module _ {form line found : List ℕ} {count i : ℕ} {rest : List ℕ} (r : Sca
                 r .left
                 ∙ rw (
                   drop-cons form i 0 h,
-                  scan-number (getD form i 0) (drop (suc i) form) rest (eq-eqb _ _ s) (rw e at n),
+                  scan-number maxDigits (getD form i 0) (drop (suc i) form) rest (eq-eqb _ _ s) (rw e at n),
                   tail-part rest
                       (length ds),
                   add-one i,
@@ -110,12 +111,12 @@ module _ {form line found : List ℕ} {count i : ℕ} {rest : List ℕ} (r : Sca
       sign-fits n = starts-long (getD form i 0) rest n
 
       pub scanning-no-sign : startsWith (getD form i 0) rest ≡ false → numbersOf (scan form line) ≡ Not
-      scanning-no-sign n = r .left ∙ rw (drop-cons form i 0 h, scan-no-sign (getD form i 0) (drop (suc i) form) rest (ne-eqb _ _ s) n)
+      scanning-no-sign n = r .left ∙ rw (drop-cons form i 0 h, scan-no-sign maxDigits (getD form i 0) (drop (suc i) form) rest (ne-eqb _ _ s) n)
 
       pub scanning-sign : startsWith (getD form i 0) rest ≡ true → Scanning form line found count (i + 1) (take (length rest - 1) (drop 1 rest))
       scanning-sign n =
           record {
             four = r .four;
             behind = omega (arith, r .behind);
-            left = r .left ∙ rw (drop-cons form i 0 h, scan-sign (getD form i 0) (drop (suc i) form) rest (ne-eqb _ _ s) n, tail-part rest 1, add-one i);
+            left = r .left ∙ rw (drop-cons form i 0 h, scan-sign maxDigits (getD form i 0) (drop (suc i) form) rest (ne-eqb _ _ s) n, tail-part rest 1, add-one i);
           }

@@ -1,9 +1,12 @@
 //! Board sheets and timetables by chance, from a fixed seed: sound ones, and ones with a fault.
 
 use crate::reference::{
-    finish, moves, peaks, read_sheet, span, write_table, Sheet, Table, BIG, MAX_TEXT,
+    finish, moves, peaks, read_sheet, span, write_table, Sheet, Table, CURRENT, FORMER, MAX_FILES,
+    MAX_LIMIT, MAX_PROCESSORS, MAX_SIZE, MAX_TASKS, MAX_TEXT,
 };
 use crate::simulation::Trace;
+use std::collections::BTreeSet;
+use std::ops::Range;
 
 /// A generator of numbers (SplitMix64).
 #[derive(Default)]
@@ -37,15 +40,18 @@ impl Random {
 pub fn sheet(r: &mut Random, most: usize) -> String {
     let n = 1 + r.below(most);
     let wide = r.one_in(8);
-    let time = if wide { 1_000_000 } else { r.between(1, 9) };
-    let size = if wide { 1_000_000 } else { r.between(0, 6) };
+    let (time, size) = if wide {
+        (FORMER.run_time, MAX_SIZE)
+    } else {
+        (r.between(1, 9), r.between(0, 6))
+    };
     let mut files = String::new();
     let mut count = 0;
     let mut total = 0;
     let density = 1 + r.below(6);
     for i in 1..=n {
         for j in i + 1..=n {
-            if count < 256 && r.below(6) < density && (n < 12 || r.one_in(1 + n / 8)) {
+            if count < MAX_FILES && r.below(6) < density && (n < 12 || r.one_in(1 + n / 8)) {
                 let f = r.between(0, size);
                 total += f;
                 count += 1;
@@ -54,11 +60,11 @@ pub fn sheet(r: &mut Random, most: usize) -> String {
         }
     }
     let limit = |r: &mut Random| match r.below(4) {
-        0 => 999_999_999,
+        0 => MAX_LIMIT,
         1 => total,
         _ => r.between(0, total.max(1)),
     };
-    let reds = if r.one_in(9) { 8 } else { 2 };
+    let reds = if r.one_in(9) { MAX_PROCESSORS } else { 2 } as usize;
     let mut text = format!(
         "(board (blue {} {}) (red {} {}))\n",
         1 + r.below(3),
@@ -81,7 +87,7 @@ pub fn large_sheet(r: &mut Random, tasks: usize) -> String {
     let pairs: Vec<(usize, usize)> = (1..=tasks)
         .flat_map(|i| (i + 1..=tasks).map(move |j| (i, j)))
         .collect();
-    let count = pairs.len().min(256);
+    let count = pairs.len().min(MAX_FILES);
     for k in 0..count {
         let (i, j) = pairs[k * pairs.len() / count];
         text += &format!(
@@ -372,15 +378,25 @@ pub fn moved_about(r: &mut Random, sheet: &Sheet, table: &Table) -> Table {
 }
 
 /// A timetable a few ticks later, as late as can be written, or mostly as it was.
-fn later(r: &mut Random, sheet: &Sheet, mut t: Table) -> Table {
-    let moved = sheet.files.iter().zip(&t.moves);
-    let moved = moved.filter(|(f, _)| moves(sheet, &t, f)).map(|(_, m)| *m);
-    let last = t.runs.iter().map(|run| run.unwrap().1).chain(moved).max();
+fn later(r: &mut Random, sheet: &Sheet, t: Table) -> Table {
     let by = match r.below(8) {
         0 | 1 => r.between(1, 5),
-        2 => BIG - last.unwrap() - r.between(0, 2),
+        2 => CURRENT.tick - last_start(sheet, &t) - r.between(0, 2),
         _ => 0,
     };
+    put_off(t, by)
+}
+
+/// The last start of a run or a move.
+fn last_start(sheet: &Sheet, t: &Table) -> i64 {
+    let moved = sheet.files.iter().zip(&t.moves);
+    let moved = moved.filter(|(f, _)| moves(sheet, t, f)).map(|(_, m)| *m);
+    let runs = t.runs.iter().map(|run| run.unwrap().1);
+    runs.chain(moved).max().unwrap()
+}
+
+/// A timetable with each start so many ticks later.
+fn put_off(mut t: Table, by: i64) -> Table {
     t.runs = t
         .runs
         .iter()
@@ -393,7 +409,7 @@ fn later(r: &mut Random, sheet: &Sheet, mut t: Table) -> Table {
 /// A sheet with limits at what a timetable holds before the first tick of 15 or 16, so that 17 applies there too where it then holds more.
 pub fn limited_before_fault(sheet: &Sheet, t: &Table) -> Sheet {
     let mut s = sheet.clone();
-    s.limits = [BIG; 2];
+    s.limits = [MAX_LIMIT; 2];
     let trace = Trace::new(&s, t);
     if let Some(tick) = trace.faulty_tick() {
         s.limits = trace.peaks_before(tick);
@@ -404,8 +420,9 @@ pub fn limited_before_fault(sheet: &Sheet, t: &Table) -> Sheet {
 /// The text of a timetable with its true claim; where no claim can name the span, with the greatest that can be written.
 pub fn write_paper(sheet: &Sheet, t: &Table) -> String {
     let (text, s) = (write_table(sheet, t), span(sheet, t));
-    if s > BIG {
-        text.replace(&format!("(claim {s} "), &format!("(claim {BIG} "))
+    let most = CURRENT.tick;
+    if s > most {
+        text.replace(&format!("(claim {s} "), &format!("(claim {most} "))
     } else {
         text
     }
@@ -413,8 +430,9 @@ pub fn write_paper(sheet: &Sheet, t: &Table) -> String {
 
 /// A sheet of 64 tasks and 256 files, each from one of the first 32 tasks to one of the others, with a move time.
 fn halves(time: i64) -> Sheet {
-    let mut sheet = String::from("(board (blue 8 999999999) (red 8 999999999))\n");
-    for i in 1..=64 {
+    let side = format!("{MAX_PROCESSORS} {MAX_LIMIT}");
+    let mut sheet = format!("(board (blue {side}) (red {side}))\n");
+    for i in 1..=MAX_TASKS {
         sheet += &format!("(task {i} 10 10)\n");
     }
     for i in 0..32 {
@@ -459,6 +477,102 @@ pub fn all_apart() -> (Vec<u8>, Vec<u8>) {
         write_sheet(&sheet).into_bytes(),
         write_table(&sheet, &table).into_bytes(),
     )
+}
+
+/// A run time or a move time: next to the greatest of the former or of the present limits, small, or any.
+fn fine_time(r: &mut Random, former: i64, present: i64) -> i64 {
+    match r.below(6) {
+        0 => former + r.between(-1, 1),
+        1 => present - r.between(0, 1),
+        2 => r.between(1, 9),
+        _ => r.between(1, present),
+    }
+}
+
+/// A sound sheet with times up to the present limits: one of them, or all. Relays stay relays.
+pub fn with_fine_times(r: &mut Random, text: &[u8]) -> Vec<u8> {
+    let mut sheet = read_sheet(text).expect("a sound sheet");
+    let runs = sheet.tasks.iter_mut().flatten().filter(|time| **time > 0);
+    let runs = runs.map(|time| (time, FORMER.run_time, CURRENT.run_time));
+    let moves = sheet.files.iter_mut().map(|f| &mut f.time);
+    let moves = moves.map(|time| (time, FORMER.move_time, CURRENT.move_time));
+    let mut times: Vec<_> = runs.chain(moves).collect();
+    if !times.is_empty() && r.one_in(3) {
+        let one = times.swap_remove(r.below(times.len()));
+        times = vec![one];
+    }
+    for (time, former, present) in times {
+        *time = fine_time(r, former, present);
+    }
+    write_sheet(&sheet).into_bytes()
+}
+
+/// A sheet of 64 tasks and 256 files on one blue and one red processor. Each task is fast on the colour on which the one before it is
+/// slow, and reads a file of it; a move and a fast run take less time than a slow run. The other files go from tasks to those an odd number
+/// behind them. So the planners, given memory enough, place the tasks by turns on both colours and move every file.
+pub fn by_turns() -> Vec<u8> {
+    let (fast, slow) = (CURRENT.run_time / 5 * 2, CURRENT.run_time);
+    let mut text = format!("(board (blue 1 {MAX_LIMIT}) (red 1 {MAX_LIMIT}))\n");
+    for i in 1..=MAX_TASKS {
+        let [blue, red] = [[slow, fast], [fast, slow]][i as usize % 2];
+        text += &format!("(task {i} {blue} {red})\n");
+    }
+    let apart = (1..MAX_TASKS).step_by(2);
+    let pairs = apart.flat_map(|by| (1..=MAX_TASKS - by).map(move |i| (i, i + by)));
+    let chosen: BTreeSet<(i64, i64)> = pairs.take(MAX_FILES).collect();
+    for (i, j) in chosen {
+        let time = CURRENT.move_time / 2;
+        text += &format!("(file {i} {j} {MAX_SIZE} {time})\n");
+    }
+    text.into_bytes()
+}
+
+/// A timetable put off until its last start or its span is next to the last tick of the former or of the present limits; as it was if it
+/// is later already.
+pub fn late(r: &mut Random, sheet: &Sheet, t: &Table) -> Table {
+    let most = [FORMER.tick, CURRENT.tick][r.below(2)] + r.between(-1, 1);
+    let last = if r.one_in(2) {
+        span(sheet, t)
+    } else {
+        last_start(sheet, t)
+    };
+    put_off(t.clone(), (most - last).max(0))
+}
+
+/// Numerals next to each limit, the least and the greatest of each length from the former digits to two past the present ones, some that
+/// are 1 modulo a power of two, and some with a leading zero.
+fn edge_numerals() -> Vec<String> {
+    let limits = [MAX_PROCESSORS, MAX_TASKS, MAX_SIZE, MAX_LIMIT];
+    let wider = [FORMER.run_time, CURRENT.run_time, FORMER.tick, CURRENT.tick];
+    let next = limits.into_iter().chain(wider).flat_map(|n| n - 1..=n + 1);
+    let lengths = FORMER.digits as u32..=CURRENT.digits as u32 + 2;
+    let ends = lengths.flat_map(|n| [10_i64.pow(n - 1), 10_i64.pow(n) - 1]);
+    let wrapped = [32, 33, 36, 39].map(|bits| (1 << bits) + 1);
+    let all: BTreeSet<i64> = next.chain(ends).chain(wrapped).chain([0, 1]).collect();
+    let zeros = [1, FORMER.tick, FORMER.tick + 1, CURRENT.tick];
+    let mut numerals: Vec<String> = all.iter().map(i64::to_string).collect();
+    numerals.extend(zeros.map(|n| format!("0{n}")));
+    numerals.push(((1_u128 << 64) + 1).to_string());
+    numerals
+}
+
+/// A text with one of its numbers replaced by one of these numerals.
+pub fn widened(r: &mut Random, text: &[u8]) -> Vec<u8> {
+    let (places, numerals) = (number_places(text), edge_numerals());
+    if places.is_empty() {
+        return text.to_vec();
+    }
+    let at = places[r.below(places.len())].clone();
+    replaced(text, at, &numerals[r.below(numerals.len())])
+}
+
+/// A text with each of its numbers in turn replaced by each of these numerals.
+pub fn each_widened(text: &[u8]) -> Vec<Vec<u8>> {
+    let numerals = edge_numerals();
+    let places = number_places(text).into_iter();
+    places
+        .flat_map(|at| numerals.iter().map(move |n| replaced(text, at.clone(), n)))
+        .collect()
 }
 
 /// A text with some damage: a byte, a line, or a number of it.
@@ -521,37 +635,39 @@ pub fn damaged(r: &mut Random, text: &[u8]) -> Vec<u8> {
     lines.concat()
 }
 
+/// Where the numbers of a text are.
+fn number_places(text: &[u8]) -> Vec<Range<usize>> {
+    let digit = |i: usize| text.get(i).is_some_and(u8::is_ascii_digit);
+    let starts = (0..text.len()).filter(|i| digit(*i) && (*i == 0 || !digit(i - 1)));
+    let end = |start: usize| (start..).find(|i| !digit(*i)).unwrap();
+    starts.map(|start| start..end(start)).collect()
+}
+
+/// A text with another number at a place.
+fn replaced(text: &[u8], at: Range<usize>, number: &str) -> Vec<u8> {
+    [&text[..at.start], number.as_bytes(), &text[at.end..]].concat()
+}
+
 /// A line with another number in place of one of its numbers.
 fn renumbered(r: &mut Random, line: &[u8]) -> Vec<u8> {
-    let text = String::from_utf8_lossy(line).into_owned();
-    let starts: Vec<usize> = text
-        .char_indices()
-        .filter(|(i, c)| {
-            c.is_ascii_digit() && (*i == 0 || !text.as_bytes()[i - 1].is_ascii_digit())
-        })
-        .map(|(i, _)| i)
-        .collect();
-    if starts.is_empty() {
+    let places = number_places(line);
+    if places.is_empty() {
         return line.to_vec();
     }
-    let at = starts[r.below(starts.len())];
-    let end = at
-        + text[at..]
-            .bytes()
-            .take_while(|b| b.is_ascii_digit())
-            .count();
-    let old: i64 = text[at..end].parse().unwrap_or(0);
+    let at = places[r.below(places.len())].clone();
+    let digits = std::str::from_utf8(&line[at.clone()]).expect("digits");
+    let old: i64 = digits.parse().unwrap_or(0);
     let new = match r.below(9) {
-        0 => "0".to_string(),
-        1 => "65".to_string(),
-        2 => "999999999".to_string(),
-        3 => "1000000000".to_string(),
-        4 => "1000001".to_string(),
-        5 => format!("0{old}"),
-        6 => format!("{}", (old - 1).max(0)),
-        _ => format!("{}", old + r.between(1, 3)),
+        0 => 0,
+        1 => MAX_TASKS + 1,
+        2 => MAX_LIMIT,
+        3 => MAX_LIMIT + 1,
+        4 => MAX_SIZE + 1,
+        5 => return replaced(line, at, &format!("0{old}")),
+        6 => (old - 1).max(0),
+        _ => old + r.between(1, 3),
     };
-    format!("{}{}{}", &text[..at], new, &text[end..]).into_bytes()
+    replaced(line, at, &new.to_string())
 }
 
 /// Bytes by chance, often those of the forms.

@@ -1,6 +1,7 @@
-//! An independent implementation of document 01 with Orders 1 to 4, for tests, and texts by chance to compare it on.
+//! An independent implementation of document 01 with Orders 1 to 5, for tests, and texts by chance to compare it on.
 
 pub mod colours;
+pub mod edges;
 pub mod generate;
 pub mod library;
 pub mod plain;
@@ -10,3 +11,4 @@ pub mod relays;
 pub mod simulation;
 pub mod stepping;
 pub mod traces;
+pub mod widths;

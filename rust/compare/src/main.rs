@@ -1,14 +1,17 @@
-//! Compares the proved library with an implementation of its own of document 01 with Orders 1 to 4, on sound and damaged texts from
+//! Compares the proved library with an implementation of its own of document 01 with Orders 1 to 5, on sound and damaged texts from
 //! a fixed seed, and short timetables also with what the memories hold at each tick. All that is marked is simulated too. Prints how often
 //! each answer was reached, what was answered to timetables with relays, how often each of the four cases of maker and reader was met,
-//! what the simulator answered, and what the plain planners did beside the memory-aware ones. Ends with an error at the first difference,
-//! where an answer or a case was never reached, or where relays were marked as the rules do not allow.
+//! what the simulator answered, what the plain planners did beside the memory-aware ones, and which marks are others than by the limits
+//! before Order 5. Ends with an error at the first difference, where an answer or a case was never reached, or where relays were marked as
+//! the rules do not allow.
 
 use compare::generate::{self, Random};
 use compare::library::{self, Answered};
-use compare::reference::{self, Heuristic, Memory, Planned, Planner, Sheet, Table, PLANNERS};
+use compare::reference::{
+    self, Heuristic, Memory, Planned, Planner, Sheet, Table, MAX_TEXT, PLANNERS,
+};
 use compare::relays::{self, has_relays};
-use compare::{colours, plain, stepping};
+use compare::{colours, plain, stepping, widths};
 use std::collections::{BTreeMap, BTreeSet};
 use Heuristic::{Heft, MinMin};
 use Memory::{Aware, Plain};
@@ -25,6 +28,7 @@ struct Tally {
     colours: colours::Counts,
     simulator: stepping::Counts,
     plain: plain::Counts,
+    widths: widths::Counts,
     cases: u64,
 }
 
@@ -55,7 +59,8 @@ impl Tally {
     fn mark(&mut self, sheet: &[u8], paper: &[u8]) -> [u64; 5] {
         self.cases += 1;
         let (got, want) = (library::mark(sheet, paper), reference::mark(sheet, paper));
-        if got != want || frames::fault_line(sheet, paper) != reference::fault_line(sheet, paper) {
+        let line = reference::fault_line(sheet, paper, want);
+        if got != want || frames::fault_line(sheet, paper) != line {
             panic!(
                 "mark differs: {got:?}, wanted {want:?}\nsheet:\n{}\npaper:\n{}",
                 show(sheet),
@@ -68,6 +73,7 @@ impl Tally {
             same(self.colours.marked(sheet, paper, got), sheet, paper);
         }
         same(self.simulator.marked(sheet, paper, got), sheet, paper);
+        same(self.widths.marked(sheet, paper, got), sheet, paper);
         got
     }
 
@@ -93,6 +99,7 @@ impl Tally {
             self.relays.planned(sheet, &want);
             self.colours.planned(sheet, &want);
         }
+        same(self.widths.planned(sheet, &got), sheet, got.text());
         let mark = match got.answer.number {
             0 => self.mark(sheet, got.text()),
             _ => [0; 5],
@@ -113,7 +120,8 @@ impl Tally {
                 plain_mark,
                 aware_mark,
             };
-            same(self.plain.planned(sheet, &pair), sheet, plain.text());
+            let found = self.plain.planned(sheet, &pair, &mut self.widths.written);
+            same(found, sheet, plain.text());
             let written = [aware, plain].into_iter().find(|a| a.answer.number == 0);
             paper = written.map(|a| a.text().to_vec()).or(paper);
         }
@@ -131,11 +139,13 @@ impl Tally {
     }
 }
 
+const COURSE: &[u8] = b"(board (blue 1 6) (red 1 6))\n(task 1 4 2)\n(task 2 3 5)\n(task 3 2 6)\n(file 1 2 2 1)\n(file 1 3 3 2)\n";
+const PAPER: &[u8] =
+    b"(run 1 2 0)\n(run 2 1 3)\n(run 3 1 6)\n(move 1 2 2)\n(move 1 3 4)\n(claim 8 5 5)\n";
+
 fn edges(t: &mut Tally) {
-    let course = b"(board (blue 1 6) (red 1 6))\n(task 1 4 2)\n(task 2 3 5)\n(task 3 2 6)\n(file 1 2 2 1)\n(file 1 3 3 2)\n";
-    let paper =
-        b"(run 1 2 0)\n(run 2 1 3)\n(run 3 1 6)\n(move 1 2 2)\n(move 1 3 4)\n(claim 8 5 5)\n";
-    for n in [32_767, 32_768, 32_769, 70_000] {
+    let (course, paper) = (COURSE, PAPER);
+    for n in [MAX_TEXT - 1, MAX_TEXT, MAX_TEXT + 1, 70_000] {
         for byte in [b'\n', b'(', 0u8] {
             let long = vec![byte; n];
             t.mark(&long, paper);
@@ -275,9 +285,75 @@ fn moved_papers(t: &mut Tally, r: &mut Random, number: u64) {
     }
 }
 
-/// The traces worked by hand, the known plans, and timetables that move every file, step by step.
+/// Timetables by chance put off until about the last tick, former or present, at times with a relay last or with faults; each also with
+/// another number.
+fn late_papers(t: &mut Tally, r: &mut Random, sheet: &[u8]) {
+    let read = reference::read_sheet(sheet).expect("a sound sheet");
+    for _ in 0..2 {
+        let mut table = generate::table(r, &read);
+        match r.below(5) {
+            0 | 1 => table = generate::put_last(r, &read, &table),
+            2 => table = generate::moved_about(r, &read, &table),
+            _ => {}
+        }
+        let late = generate::late(r, &read, &table);
+        let mut paper = if r.one_in(2) {
+            reference::write_table(&read, &late)
+        } else {
+            generate::write_paper(&read, &late)
+        };
+        t.mark(sheet, &generate::widened(r, paper.as_bytes()));
+        if r.one_in(6) {
+            paper = generate::untrue(r, &paper);
+        }
+        t.mark(sheet, paper.as_bytes());
+    }
+}
+
+/// A board that counts in nanoseconds, late timetables on it and on one that does not, and numbers next to the limits.
+fn fine_round(t: &mut Tally, r: &mut Random, number: u64) {
+    let tasks = if number.is_multiple_of(50) { 64 } else { 7 };
+    let plain = generate::sheet(r, tasks);
+    let coarse = drawn(r, plain);
+    late_papers(t, r, &coarse);
+    let fine = generate::with_fine_times(r, &coarse);
+    late_papers(t, r, &fine);
+    let written = t.planners(r, &fine);
+    let wide = generate::widened(r, &coarse);
+    t.planners(r, &wide);
+    let damaged = generate::damaged(r, &wide);
+    for sheet in [&wide, &damaged, &generate::widened(r, &fine)] {
+        let paper = written.as_deref().unwrap_or(b"");
+        t.mark(sheet, paper);
+        t.mark(sheet, &generate::widened(r, paper));
+    }
+}
+
+/// Finer ticks: each number of the course example replaced by numbers next to the limits, and boards that count in nanoseconds.
+fn finer_ticks(t: &mut Tally, rounds: u64) {
+    let mut r = Random(5);
+    for sheet in generate::each_widened(COURSE) {
+        t.mark(&sheet, PAPER);
+        t.planners(&mut r, &sheet);
+    }
+    for paper in generate::each_widened(PAPER) {
+        t.mark(COURSE, &paper);
+    }
+    for number in 0..rounds {
+        fine_round(t, &mut r, number);
+    }
+    t.planners(&mut r, &generate::by_turns());
+    for tasks in [24, 64] {
+        let large = generate::large_sheet(&mut r, tasks);
+        let fine = generate::with_fine_times(&mut r, large.as_bytes());
+        t.planners(&mut r, &fine);
+    }
+}
+
+/// The traces worked by hand, the known plans and marks, and timetables that move every file, step by step.
 fn by_hand(t: &mut Tally) {
-    if let Err(difference) = t.simulator.by_hand().and(t.plain.by_hand()) {
+    let traces = t.simulator.by_hand();
+    if let Err(difference) = traces.and(t.plain.by_hand()).and(t.widths.by_hand()) {
         panic!("{difference}");
     }
     for (sheet, paper) in [generate::all_moved(), generate::all_apart()] {
@@ -298,6 +374,7 @@ fn compare_all(rounds: u64) -> Tally {
     for number in 0..rounds {
         moved_papers(&mut t, &mut r, number);
     }
+    finer_ticks(&mut t, rounds / 5);
     by_hand(&mut t);
     t
 }
@@ -319,10 +396,12 @@ fn main() {
     t.colours.print();
     t.simulator.print();
     t.plain.print();
+    t.widths.print();
     println!("{} cases, no difference", t.cases);
     let mut faults = [t.relays.faults(), t.colours.faults()].concat();
     faults.extend(t.simulator.faults());
     faults.extend(t.plain.faults());
+    faults.extend(t.widths.faults());
     if !ok {
         faults.push("an answer was never reached".to_string());
     }

@@ -1,4 +1,4 @@
-//! An implementation of document 01 with Orders 1, 2 and 4 for tests, written from the documents in another way than the proved code:
+//! An implementation of document 01 with Orders 1, 2, 4 and 5 for tests, written from the documents in another way than the proved code:
 //! texts are split into words, memory is a list of changes sorted by tick, weights are by recursion.
 //!
 //! What a planner tries and places, and the marker's 16, go by Order 2's four cases of maker and reader. Which move lines are due and
@@ -9,7 +9,54 @@ use Colour::{Blue, Red};
 use Heuristic::{Heft, MinMin};
 use Memory::{Aware, Plain};
 
+// ---- the limits of both texts: this place alone sets them
+
+/// Bytes of a text.
 pub const MAX_TEXT: usize = 32_768;
+
+/// Tasks of a sheet, and the greatest task number.
+pub const MAX_TASKS: i64 = 64;
+
+/// Files of a sheet.
+pub const MAX_FILES: usize = 256;
+
+/// P: the processors of one colour, at least 1.
+pub const MAX_PROCESSORS: i64 = 8;
+
+/// M: a memory limit.
+pub const MAX_LIMIT: i64 = 999_999_999;
+
+/// F: a file's size.
+pub const MAX_SIZE: i64 = 1_000_000;
+
+/// The limits that Order 5 made wider.
+#[derive(Clone, Copy, Debug, PartialEq, Eq)]
+pub struct Widths {
+    /// digits of a number
+    pub digits: usize,
+    /// B and R: a run time, 0 for a relay
+    pub run_time: i64,
+    /// C: a move time, at least 1
+    pub move_time: i64,
+    /// s, t and each number of a claim
+    pub tick: i64,
+}
+
+/// Before Order 5.
+pub const FORMER: Widths = Widths {
+    digits: 9,
+    run_time: 1_000_000,
+    move_time: 1_000_000,
+    tick: 999_999_999,
+};
+
+/// From Order 5 on.
+pub const CURRENT: Widths = Widths {
+    digits: 12,
+    run_time: 1_000_000_000,
+    move_time: 1_000_000_000,
+    tick: 999_999_999_999,
+};
 
 pub type Refused = (u64, u64);
 
@@ -23,7 +70,7 @@ pub enum Colour {
 /// How often something was met, by the colours of maker and reader.
 pub type ByCase = [[u64; 2]; 2];
 
-#[derive(Clone, Debug)]
+#[derive(Clone, Debug, PartialEq, Eq)]
 pub struct File {
     pub maker: usize,
     pub reader: usize,
@@ -31,7 +78,7 @@ pub struct File {
     pub time: i64,
 }
 
-#[derive(Clone, Debug)]
+#[derive(Clone, Debug, PartialEq, Eq)]
 pub struct Sheet {
     pub processors: [i64; 2],
     pub limits: [i64; 2],
@@ -60,8 +107,16 @@ fn lines(text: &[u8]) -> Vec<(&[u8], bool)> {
     all
 }
 
-/// The numbers of a line, if it is `words` with a numeral for each `#`.
-fn numbers(line: &[u8], words: &str) -> Option<Vec<i64>> {
+/// The three forms of a sheet's lines, and of a timetable's, with `#` for a number.
+pub const SHEET_FORMS: [&str; 3] = [
+    "(board (blue # #) (red # #))",
+    "(task # # #)",
+    "(file # # # #)",
+];
+pub const TABLE_FORMS: [&str; 3] = ["(run # # #)", "(move # # #)", "(claim # # #)"];
+
+/// The numbers of a line, if it is `words` with a numeral of at most so many digits for each `#`.
+fn numbers(line: &[u8], words: &str, most_digits: usize) -> Option<Vec<i64>> {
     let text = std::str::from_utf8(line).ok()?;
     let got: Vec<&str> = text.split(' ').collect();
     let want: Vec<&str> = words.split(' ').collect();
@@ -76,7 +131,7 @@ fn numbers(line: &[u8], words: &str) -> Option<Vec<i64>> {
             let digits = inner.bytes().all(|b| b.is_ascii_digit());
             if inner.is_empty()
                 || !digits
-                || inner.len() > 9
+                || inner.len() > most_digits
                 || (inner.len() > 1 && inner.starts_with('0'))
             {
                 return None;
@@ -93,56 +148,85 @@ fn all_in(pairs: &[(i64, i64, i64)]) -> bool {
     pairs.iter().all(|(n, least, most)| least <= n && n <= most)
 }
 
-/// A readable line: which of the three forms, and its numbers.
-fn readable(
-    line: (&[u8], bool),
-    forms: [&str; 3],
-    ranges: impl Fn(usize) -> Vec<(i64, i64)>,
+/// What makes a line readable: the three forms, the most digits of a number, and the ranges of each form's numbers.
+struct Reading {
+    forms: [&'static str; 3],
+    digits: usize,
+    ranges: [Vec<(i64, i64)>; 3],
+    /// 0 for a sheet and 10 for a timetable
     base: u64,
-) -> Result<(usize, Vec<i64>), u64> {
-    if !line.1 {
-        return Err(base + 2);
-    }
-    for (kind, form) in forms.iter().enumerate() {
-        if let Some(vs) = numbers(line.0, form) {
-            let limits = ranges(kind);
-            let pairs: Vec<(i64, i64, i64)> = vs
-                .iter()
-                .zip(&limits)
-                .map(|(v, (a, b))| (*v, *a, *b))
-                .collect();
-            return if all_in(&pairs) {
-                Ok((kind, vs))
-            } else {
-                Err(base + 3)
-            };
-        }
-    }
-    Err(base + 2)
 }
 
-/// The greatest number of 9 digits.
-pub const BIG: i64 = 999_999_999;
+impl Reading {
+    fn of_sheet(widths: Widths) -> Reading {
+        let (processors, limit) = ((1, MAX_PROCESSORS), (0, MAX_LIMIT));
+        let (task, size) = ((1, MAX_TASKS), (0, MAX_SIZE));
+        let (run_time, move_time) = ((0, widths.run_time), (1, widths.move_time));
+        Reading {
+            forms: SHEET_FORMS,
+            digits: widths.digits,
+            ranges: [
+                vec![processors, limit, processors, limit],
+                vec![task, run_time, run_time],
+                vec![task, task, size, move_time],
+            ],
+            base: 0,
+        }
+    }
+
+    fn of_table(widths: Widths, sheet: &Sheet) -> Reading {
+        let processor = (1, sheet.processors[0] + sheet.processors[1]);
+        let (task, tick) = ((1, MAX_TASKS), (0, widths.tick));
+        Reading {
+            forms: TABLE_FORMS,
+            digits: widths.digits,
+            ranges: [
+                vec![task, processor, tick],
+                vec![task, task, tick],
+                vec![tick, tick, tick],
+            ],
+            base: 10,
+        }
+    }
+
+    /// A readable line: which of the three forms, and its numbers.
+    fn line(&self, (line, ended): (&[u8], bool)) -> Result<(usize, Vec<i64>), u64> {
+        if !ended {
+            return Err(self.base + 2);
+        }
+        for (kind, form) in self.forms.iter().enumerate() {
+            if let Some(vs) = numbers(line, form, self.digits) {
+                let pairs: Vec<(i64, i64, i64)> = vs
+                    .iter()
+                    .zip(&self.ranges[kind])
+                    .map(|(v, (a, b))| (*v, *a, *b))
+                    .collect();
+                return if all_in(&pairs) {
+                    Ok((kind, vs))
+                } else {
+                    Err(self.base + 3)
+                };
+            }
+        }
+        Err(self.base + 2)
+    }
+}
 
 pub fn read_sheet(text: &[u8]) -> Result<Sheet, Refused> {
+    read_sheet_by(CURRENT, text)
+}
+
+/// The reading of a sheet by former or by present limits.
+pub fn read_sheet_by(widths: Widths, text: &[u8]) -> Result<Sheet, Refused> {
     if text.len() > MAX_TEXT {
         return Err((1, 0));
     }
-    let forms = [
-        "(board (blue # #) (red # #))",
-        "(task # # #)",
-        "(file # # # #)",
-    ];
-    let ranges = |kind: usize| match kind {
-        0 => vec![(1, 8), (0, BIG), (1, 8), (0, BIG)],
-        1 => vec![(1, 64), (0, 1_000_000), (0, 1_000_000)],
-        _ => vec![(1, 64), (1, 64), (0, 1_000_000), (1, 1_000_000)],
-    };
+    let reading = Reading::of_sheet(widths);
     let mut sheet: Option<Sheet> = None;
     let all = lines(text);
     for (at, line) in all.iter().enumerate() {
         let place = at as u64 + 1;
-        let (kind, v) = readable(*line, forms, ranges, 0).map_err(|n| (n, place))?;
+        let (kind, v) = reading.line(*line).map_err(|n| (n, place))?;
         match (&mut sheet, kind) {
             (None, 0) => {
                 sheet = Some(Sheet {
@@ -155,21 +239,12 @@ pub fn read_sheet(text: &[u8]) -> Result<Sheet, Refused> {
             (Some(s), 1) if s.files.is_empty() && v[0] == s.tasks.len() as i64 + 1 => {
                 s.tasks.push([v[1], v[2]])
             }
-            (Some(s), 2) => {
-                let above = s.files.last().map_or(true, |f| {
-                    (f.maker as i64 + 1, f.reader as i64 + 1) < (v[0], v[1])
-                });
-                if v[0] < v[1] && v[1] <= s.tasks.len() as i64 && above && s.files.len() < 256 {
-                    s.files.push(File {
-                        maker: v[0] as usize - 1,
-                        reader: v[1] as usize - 1,
-                        size: v[2],
-                        time: v[3],
-                    });
-                } else {
-                    return Err((4, place));
-                }
-            }
+            (Some(s), 2) if s.allows_file(v[0], v[1]) => s.files.push(File {
+                maker: v[0] as usize - 1,
+                reader: v[1] as usize - 1,
+                size: v[2],
+                time: v[3],
+            }),
             _ => return Err((4, place)),
         }
     }
@@ -180,6 +255,15 @@ pub fn read_sheet(text: &[u8]) -> Result<Sheet, Refused> {
 }
 
 impl Sheet {
+    /// Whether a file with this maker and this reader may come next.
+    fn allows_file(&self, i: i64, j: i64) -> bool {
+        let above = self
+            .files
+            .last()
+            .is_none_or(|f| (f.maker as i64 + 1, f.reader as i64 + 1) < (i, j));
+        i < j && j <= self.tasks.len() as i64 && above && self.files.len() < MAX_FILES
+    }
+
     pub fn colour(&self, processor: i64) -> Colour {
         if processor <= self.processors[0] {
             Blue
@@ -199,22 +283,25 @@ pub struct Claim {
 }
 
 pub fn read_table(sheet: &Sheet, text: &[u8]) -> Result<(Table, Claim), Refused> {
+    read_table_by(CURRENT, sheet, text)
+}
+
+/// The reading of a timetable by former or by present limits.
+pub fn read_table_by(
+    widths: Widths,
+    sheet: &Sheet,
+    text: &[u8],
+) -> Result<(Table, Claim), Refused> {
     if text.len() > MAX_TEXT {
         return Err((11, 0));
     }
-    let forms = ["(run # # #)", "(move # # #)", "(claim # # #)"];
-    let total = sheet.processors[0] + sheet.processors[1];
-    let ranges = |kind: usize| match kind {
-        0 => vec![(1, 64), (1, total), (0, BIG)],
-        1 => vec![(1, 64), (1, 64), (0, BIG)],
-        _ => vec![(0, BIG), (0, BIG), (0, BIG)],
-    };
+    let reading = Reading::of_table(widths, sheet);
     let all = lines(text);
     let mut at = 0;
     let mut next = |due: &dyn Fn(usize, &[i64]) -> bool| -> Result<Vec<i64>, Refused> {
         let place = at as u64 + 1;
         let line = all.get(at).ok_or((12, place))?;
-        let (kind, v) = readable(*line, forms, ranges, 10).map_err(|n| (n, place))?;
+        let (kind, v) = reading.line(*line).map_err(|n| (n, place))?;
         if !due(kind, &v) {
             return Err((14, place));
         }
@@ -241,10 +328,7 @@ pub fn read_table(sheet: &Sheet, text: &[u8]) -> Result<(Table, Claim), Refused>
     let v = next(&|kind, _| kind == 2)?;
     if all.len() > at {
         let place = at as u64 + 1;
-        return Err((
-            readable(all[at], forms, ranges, 10).err().unwrap_or(14),
-            place,
-        ));
+        return Err((reading.line(all[at]).err().unwrap_or(14), place));
     }
     Ok((
         table,
@@ -423,12 +507,17 @@ pub fn fault(sheet: &Sheet, table: &Table) -> Option<Refused> {
 
 /// The marker: number, place, span and peaks.
 pub fn mark(sheet: &[u8], paper: &[u8]) -> [u64; 5] {
+    mark_by(CURRENT, sheet, paper)
+}
+
+/// The marker by former or by present limits.
+pub fn mark_by(widths: Widths, sheet: &[u8], paper: &[u8]) -> [u64; 5] {
     let refused = |r: Refused| [r.0, r.1, 0, 0, 0];
-    let sheet = match read_sheet(sheet) {
+    let sheet = match read_sheet_by(widths, sheet) {
         Ok(s) => s,
         Err(r) => return refused(r),
     };
-    let (table, claim) = match read_table(&sheet, paper) {
+    let (table, claim) = match read_table_by(widths, &sheet, paper) {
         Ok(t) => t,
         Err(r) => return refused(r),
     };
@@ -442,15 +531,14 @@ pub fn mark(sheet: &[u8], paper: &[u8]) -> [u64; 5] {
     [0, 0, claim.span as u64, peaks[0] as u64, peaks[1] as u64]
 }
 
-/// The line at fault.
-pub fn fault_line(sheet: &[u8], paper: &[u8]) -> Vec<u8> {
-    let m = mark(sheet, paper);
-    let text = match m[0] {
+/// The line at fault by a mark.
+pub fn fault_line(sheet: &[u8], paper: &[u8], mark: [u64; 5]) -> Vec<u8> {
+    let text = match mark[0] {
         1..=4 => sheet,
         11..=14 => paper,
         _ => return vec![],
     };
-    match m[1] {
+    match mark[1] {
         0 => vec![],
         k => lines(text)
             .get(k as usize - 1)

@@ -2,7 +2,7 @@
 //! each answer was reached.
 
 use crate::generate::Random;
-use crate::reference::{Refused, BIG};
+use crate::reference::{Refused, CURRENT};
 use crate::simulation::{simulate, Answer, Trace};
 use crate::traces::traces;
 use frames::Progress;
@@ -248,7 +248,7 @@ impl Counts {
             self.first += u64::from(all.made == 0);
         } else {
             self.untrue += u64::from(mark == 18);
-            self.unwritable += u64::from(all.span > BIG as u64);
+            self.unwritable += u64::from(all.span > CURRENT.tick as u64);
             self.past += u64::from(all.time > all.span);
         }
     }

@@ -327,6 +327,70 @@ mod tests {
         }
     }
 
+    /// The greatest M, B, R and C are read, one more is not, and neither are 13 digits.
+    #[test]
+    fn greatest_numbers_of_a_sheet() {
+        let read = Refusal::PaperMalformed { line: 1 };
+        let (board, task, file) = ("blue 1 6", "(task 1 4 2)", "(file 1 2 2 1)");
+        let over = |line| Refusal::SheetOutOfRange { line };
+        let course = std::str::from_utf8(COURSE).unwrap();
+        for (text, other, refusal) in [
+            (board, "blue 1 999999999", read),
+            (board, "blue 1 1000000000", over(1)),
+            (board, "blue 1 999999999999", over(1)),
+            (
+                board,
+                "blue 1 1000000000000",
+                Refusal::SheetMalformed { line: 1 },
+            ),
+            (task, "(task 1 1000000000 2)", read),
+            (task, "(task 1 1000000001 2)", over(2)),
+            (task, "(task 1 4 1000000000)", read),
+            (task, "(task 1 4 1000000001)", over(2)),
+            (file, "(file 1 2 2 1000000000)", read),
+            (file, "(file 1 2 2 1000000001)", over(5)),
+        ] {
+            let sheet = course.replace(text, other);
+            let verdict = mark(sheet.as_bytes(), b"");
+            assert_eq!(verdict, Verdict::Refused(refusal), "{other}");
+        }
+    }
+
+    /// A run of 4 ticks on blue, a relay on red: at the last tick that can be written, and past it.
+    #[test]
+    fn last_tick() {
+        let sheet = b"(board (blue 1 9) (red 1 9))\n(task 1 4 0)\n";
+        let accepted = Verdict::Accepted {
+            span: 999_999_999_999,
+            blue_peak: 0,
+            red_peak: 0,
+        };
+        let untrue = Verdict::Refused(Refusal::ClaimUntrue);
+        let malformed = |line| Verdict::Refused(Refusal::PaperMalformed { line });
+        for (run, claim, verdict) in [
+            ("1 999999999995", "999999999999", accepted),
+            ("2 999999999999", "999999999999", accepted),
+            ("1 999999999999", "999999999999", untrue),
+            ("1 999999999999", "1000000000003", malformed(2)),
+            ("2 1000000000000", "999999999999", malformed(1)),
+        ] {
+            let paper = format!("(run 1 {run})\n(claim {claim} 0 0)\n");
+            assert_eq!(mark(sheet, paper.as_bytes()), verdict, "{paper}");
+        }
+        let past = simulate(sheet, b"(run 1 1 999999999999)\n(claim 0 0 0)\n", 0, 2);
+        let span = 1_000_000_000_003;
+        assert_eq!((past.progress, past.time), (Progress::Ended { span }, span));
+    }
+
+    #[test]
+    fn longest_times_planned() {
+        let sheet = b"(board (blue 1 0) (red 1 0))\n(task 1 1000000000 1000000000)\n";
+        for (planner, _) in PLANNERS {
+            let written = plan(planner, sheet).unwrap().timetable;
+            assert_eq!(written, b"(run 1 1 0)\n(claim 1000000000 0 0)\n");
+        }
+    }
+
     /// The course example with other limits: the plain planners write what they wrote, and the marker refuses it by 17.
     #[test]
     fn plain_planners_over_a_limit() {

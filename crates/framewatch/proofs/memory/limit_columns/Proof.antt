@@ -1,7 +1,8 @@
--- `limit_columns` meets its contract: a limit has at most 9 digits.
+-- `limit_columns` meets its contract: a limit takes at most `limitColumns`.
 use borrow.Author.Needs.{needs}
 use native.Mathlib.Omega.{arith}
 use Rattle.rules.proofs.NumeralLaws.{decimal-long}
+use Rattle.framewatch.specs.Columns.{limitColumns}
 use Rattle.framewatch.proofs.memory.limit_columns.Statement.{statement}
 use Rattle.framewatch.proofs.memory.limit_columns.Tie as tie
 
@@ -12,7 +13,7 @@ number-size-requires : tie.Need-number-size-requires
 number-size-requires c κs = search needs
 
 returns : tie.Need-returns
-returns c = omega (arith, decimal-long (c .before .greater .result) 9 (omega arith) (omega arith))
+returns c = omega (arith, decimal-long (c .before .greater .result) limitColumns (omega arith) (omega arith))
 
 pub limit-columns-spec : {M : Type 1} → statement M
 limit-columns-spec = tie.close (tie.spec greater-requires number-size-requires returns)

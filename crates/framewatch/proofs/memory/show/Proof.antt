@@ -1,9 +1,9 @@
--- `show` meets its contract: totals and limits have at most 9 digits.
+-- `show` meets its contract: totals and limits take at most `limitColumns`.
 use borrow.Author.Needs.{needs}
 use Prim.Native.Nat.{_≤_}
 use native.Mathlib.Omega.{arith}
-use Rattle.rules.specs.Limits.{maxDigits}
 use Rattle.rules.proofs.NumeralLaws.{decimal-long}
+use Rattle.framewatch.specs.Columns.{limitColumns}
 use Rattle.framewatch.proofs.memory.show.Statement.{statement}
 use Rattle.framewatch.proofs.memory.show.Tie as tie
 
@@ -28,7 +28,7 @@ text-requires c κs = search needs
 right-requires-2 : tie.Need-right-requires-2
 right-requires-2 c κs =
     let t = c .before .before .before .before .total in
-    let h = decimal-long (t .result) maxDigits (omega arith) (omega (arith, t .ensures .1)) in
+    let h = decimal-long (t .result) limitColumns (omega arith) (omega (arith, t .ensures .1)) in
     omega (
       arith,
       c .before .before .before .before .before .before .pre,
@@ -46,8 +46,8 @@ files-requires c κs =
     let b = s .pre .1 in
     let n = c .before .before .before .before .before .by-colour in
     let t = c .before .before .before .before .before .before .total in
-    let h = decimal-long (t .result) maxDigits (omega arith) (omega (arith, t .ensures .1)) in
-    let g = decimal-long (n .result) maxDigits (omega arith) (omega (arith, n .ensures .1, b .blueLimit, b .redLimit)) in
+    let h = decimal-long (t .result) limitColumns (omega arith) (omega (arith, t .ensures .1)) in
+    let g = decimal-long (n .result) limitColumns (omega arith) (omega (arith, n .ensures .1, b .blueLimit, b .redLimit)) in
     let w : c .before .right2 .result .used ≤ 41 = omega (
       arith,
       s .pre,

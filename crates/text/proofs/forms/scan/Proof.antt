@@ -6,6 +6,7 @@ use mathlib.Core.Path.{sym, _∙_}
 use native.Mathlib.Omega.{arith}
 use lib.ListN.{length}
 use denote.Ref.{now}
+use Rattle.rules.specs.Limits.{maxDigits}
 use Rattle.rules.proofs.NumeralLaws.{numeral-long}
 use Rattle.text.proofs.ScanLaws.{Scanning, scanning-start, scanning-end, scanning-long, digits-fit, scanning-no-number, scanning-number, sign-fits}
 use Rattle.text.proofs.ScanLaws.{scanning-no-sign, scanning-sign}
@@ -38,7 +39,7 @@ returns c =
     (sym (c .before .is-numeral .ensures) ∙ not-true _ (c .if2 .taken)))
 
 value-requires : tie.Need-value-requires Inv-loop μ-loop
-value-requires c κs = numeral-long (now (c .before .before .digits .result)) (sym (c .before .is-numeral .ensures) ∙ not-false _ (c .if2 .left))
+value-requires c κs = numeral-long maxDigits (omega arith) (now (c .before .before .digits .result)) (sym (c .before .is-numeral .ensures) ∙ not-false _ (c .if2 .left))
 
 with-number-requires : tie.Need-with-number-requires Inv-loop μ-loop
 with-number-requires c κs = search needs

@@ -1,0 +1,229 @@
+-- Old papers keep their marks: keptMarks, keptAccepted; and what was read of a text is: keptSheets, keptTimetables.
+use Prim.Native.Nat.{ℕ, zero, suc, _+_, _-_}
+use mathlib.Core.Path.{_≡_, refl, sym, ap, subst, _∙_}
+use mathlib.Core.Bool.{true}
+use mathlib.Core.List.{List, [], _∷_}
+use mathlib.Core.Option.{Option}
+use mathlib.Core.Logic.{inl, inr}
+use native.Mathlib.Omega.{arith}
+use native.Mathlib.Nat.{add-zero}
+use lib.Dec.{leb}
+use lib.ListN.{length, getD, drop}
+use lib.Seq.{drop-drop, getD-drop}
+use Rattle.rules.specs.Limits.{maxText, current, former}
+use Rattle.rules.specs.Model.{Instance, taskCount, fileCount, fileAt, moved, Schedule}
+use Rattle.rules.specs.Validity.{Claim, Verdict, refusedBy}
+use Rattle.rules.specs.Text.{Fault, malformed, outOfRange, Line, unended, linesOf, due}
+use Rattle.rules.specs.InstanceText.{boardForm, taskForm, fileForm, instanceLineBy, instanceLine, withBoard, withLine, InstanceRead, refused, accepted}
+use Rattle.rules.specs.InstanceText.{readRestBy, readLinesBy, readInstanceBy}
+use Rattle.rules.specs.ScheduleText.{runForm, moveForm, claimForm, ScheduleLine, scheduleLineBy, scheduleLine, runOf, moveOf, claimOf}
+use Rattle.rules.specs.ScheduleText.{ScheduleRead, refused as refusedTimetable, read, readEndBy, readClaimBy, withMove, readMovesBy, withRun, readRunsBy, readScheduleBy}
+use Rattle.rules.specs.Calls.{markBy}
+use Rattle.rules.specs.FinerTicks.{lineBehind, Outgrown, longInSheet, largeRunTime, largeMoveTime, longInTimetable, KeptMark, KeptMarks, KeptAccepted, KeptSheets, KeptTimetables}
+use Rattle.rules.proofs.Tests.{split}
+use Rattle.rules.proofs.ReadingLaws.{by-reading}
+use Rattle.rules.proofs.KeptLineLaws.{isLong, isLarge, isSame, due-kept, LongIn, LargeTime, ofRun, ofMove, sheet-line, paper-line}
+
+-- ---- the line at a place
+
+module _ (bs : List ℕ) (at : ℕ) (l : Line) (ls : List Line) (e : drop at (linesOf bs) ≡ l ∷ ls) where
+  line-behind : l ≡ lineBehind bs at
+  line-behind =
+      let x : getD (drop at (linesOf bs)) 0 (unended []) ≡ getD (linesOf bs) at (unended []) = rw add-zero at (getD-drop at (linesOf bs) 0 (unended [])) in
+      let y : getD (drop at (linesOf bs)) 0 (unended []) ≡ l = rw e in
+      sym y ∙ x
+
+  lines-behind : drop (suc at) (linesOf bs) ≡ ls
+  lines-behind =
+      let n : at + 1 ≡ suc at = omega arith in
+      let x : drop 1 (drop at (linesOf bs)) ≡ drop (suc at) (linesOf bs) = rw n at (drop-drop 1 at (linesOf bs)) in
+      sym x ∙ ap (drop 1) e
+
+-- ---- a board sheet
+
+abbrev LongOnSheet : Line → Type 0
+LongOnSheet = LongIn boardForm taskForm fileForm
+
+-- the sheet's reading x by the former widths, and y by the widths now
+data KeptSheet (bs : List ℕ) (x y : InstanceRead) : Type 0 where
+  sheetLong : (n : ℕ) → x ≡ refused malformed (suc n) → LongOnSheet (lineBehind bs n) → KeptSheet bs x y
+  sheetLarge : (n : ℕ) → x ≡ refused outOfRange (suc n) → LargeTime (lineBehind bs n) → KeptSheet bs x y
+  sheetSame : x ≡ y → KeptSheet bs x y
+
+module _ (bs : List ℕ) where
+  rest-kept : (ls : List Line) (I : Instance) (at : ℕ) → drop at (linesOf bs) ≡ ls
+      → KeptSheet bs (readRestBy former I (suc at) ls) (readRestBy current I (suc at) ls)
+  unfolding readRestBy
+  rest-kept [] I at e = sheetSame refl
+  rest-kept (l ∷ ls) I at e = elim (due-kept (withLine I) (instanceLineBy former l) (instanceLine l) (sheet-line l)) [
+    | isLong q h ↦ sheetLong at (rw (q, readRestBy)) (subst LongOnSheet (line-behind bs at l ls e) h)
+    | isLarge q h ↦ sheetLarge at (rw (q, readRestBy)) (subst LargeTime (line-behind bs at l ls e) h)
+    | isSame q ↦
+        by-reading (due (withLine I) (instanceLineBy former l))
+        (λ w d. sheetSame (rw (d, sym q ∙ d, readRestBy)))
+        (λ J d. rw (d, sym q ∙ d, readRestBy) (rest-kept ls J (suc at) (lines-behind bs at l ls e)))
+  ]
+
+  lines-kept : (ls : List Line) → linesOf bs ≡ ls → KeptSheet bs (readLinesBy former ls) (readLinesBy current ls)
+  unfolding readLinesBy
+  lines-kept [] e = sheetSame refl
+  lines-kept (l ∷ ls) e = elim (due-kept withBoard (instanceLineBy former l) (instanceLine l) (sheet-line l)) [
+    | isLong q h ↦ sheetLong 0 (rw (q, readLinesBy)) (subst LongOnSheet (line-behind bs 0 l ls e) h)
+    | isLarge q h ↦ sheetLarge 0 (rw (q, readLinesBy)) (subst LargeTime (line-behind bs 0 l ls e) h)
+    | isSame q ↦
+        by-reading (due withBoard (instanceLineBy former l))
+        (λ w d. sheetSame (rw (d, sym q ∙ d, readLinesBy)))
+        (λ J d. rw (d, sym q ∙ d, readLinesBy) (rest-kept ls J 1 (lines-behind bs 0 l ls e)))
+  ]
+
+  sheet-kept : KeptSheet bs (readInstanceBy former bs) (readInstanceBy current bs)
+  unfolding readInstanceBy
+  sheet-kept = split (leb (length bs) maxText)
+      (λ s. rw (s, readInstanceBy) (lines-kept (linesOf bs) refl))
+      (λ s. rw (s, readInstanceBy) (sheetSame refl))
+
+-- ---- a timetable
+
+abbrev LongInPaper : Line → Type 0
+LongInPaper = LongIn runForm moveForm claimForm
+
+data KeptPaper (bs : List ℕ) (x y : ScheduleRead) : Type 0 where
+  paperLong : (n : ℕ) → x ≡ refusedTimetable malformed (suc n) → LongInPaper (lineBehind bs n) → KeptPaper bs x y
+  paperSame : x ≡ y → KeptPaper bs x y
+
+module _ (bs : List ℕ) (I : Instance) where
+  end-kept : (ls : List Line) (P : Schedule) (c : Claim) (at : ℕ) → drop at (linesOf bs) ≡ ls
+      → KeptPaper bs (readEndBy former I P c (suc at) ls) (readEndBy current I P c (suc at) ls)
+  unfolding readEndBy
+  end-kept [] P c at e = paperSame refl
+  end-kept (l ∷ ls) P c at e = elim (paper-line I l) [
+    | isLong q h ↦ paperLong at (rw q) (subst LongInPaper (line-behind bs at l ls e) h)
+    | isLarge q h ↦ absurd h
+    | isSame q ↦ paperSame (rw q)
+  ]
+
+  claim-kept : (ls : List Line) (P : Schedule) (at : ℕ) → drop at (linesOf bs) ≡ ls
+      → KeptPaper bs (readClaimBy former I P (suc at) ls) (readClaimBy current I P (suc at) ls)
+  unfolding readClaimBy
+  claim-kept [] P at e = paperSame refl
+  claim-kept (l ∷ ls) P at e = elim (due-kept claimOf (scheduleLineBy former I l) (scheduleLine I l) (paper-line I l)) [
+    | isLong q h ↦ paperLong at (rw (q, readClaimBy)) (subst LongInPaper (line-behind bs at l ls e) h)
+    | isLarge q h ↦ absurd h
+    | isSame q ↦
+        by-reading (due claimOf (scheduleLineBy former I l))
+        (λ w d. paperSame (rw (d, sym q ∙ d, readClaimBy)))
+        (λ c d. rw (d, sym q ∙ d, readClaimBy) (end-kept ls P c (suc at) (lines-behind bs at l ls e)))
+  ]
+
+  module _ (left : ℕ) (P : Schedule) (at : ℕ) (m : moved I P (fileCount I - suc left) ≡ true) where
+    abbrev move-due : ScheduleLine → Option ℕ
+    move-due = moveOf (suc (fileAt I (fileCount I - suc left) .maker)) (suc (fileAt I (fileCount I - suc left) .reader))
+
+    move-kept : (ls : List Line) → drop at (linesOf bs) ≡ ls
+        → ((t : ℕ) (rest : List Line) → drop (suc at) (linesOf bs) ≡ rest
+        → KeptPaper bs (readMovesBy former I left (withMove P t) (suc (suc at)) rest) (readMovesBy current I left (withMove P t) (suc (suc at)) rest))
+        → KeptPaper bs (readMovesBy former I (suc left) P (suc at) ls) (readMovesBy current I (suc left) P (suc at) ls)
+    unfolding readMovesBy
+    move-kept [] e ih = paperSame (rw (m, readMovesBy))
+    move-kept (l ∷ ls) e ih = elim (due-kept move-due (scheduleLineBy former I l) (scheduleLine I l) (paper-line I l)) [
+      | isLong q h ↦ paperLong at (rw (m, q, readMovesBy)) (subst LongInPaper (line-behind bs at l ls e) h)
+      | isLarge q h ↦ absurd h
+      | isSame q ↦
+          by-reading (due move-due (scheduleLineBy former I l))
+          (λ w d. paperSame (rw (m, d, sym q ∙ d, readMovesBy)))
+          (λ t d. rw (m, d, sym q ∙ d, readMovesBy) (ih t ls (lines-behind bs at l ls e)))
+    ]
+
+  moves-kept : (left : ℕ) (ls : List Line) (P : Schedule) (at : ℕ) → drop at (linesOf bs) ≡ ls
+      → KeptPaper bs (readMovesBy former I left P (suc at) ls) (readMovesBy current I left P (suc at) ls)
+  unfolding readMovesBy
+  moves-kept zero ls P at e = claim-kept ls P at e
+  moves-kept (suc left) ls P at e = split (moved I P (fileCount I - suc left))
+      (λ m. move-kept left P at m ls e (λ t rest f. moves-kept left rest (withMove P t) (suc at) f))
+      (λ m. rw (m, readMovesBy) (moves-kept left ls (withMove P 0) at e))
+
+  runs-kept : (left : ℕ) (ls : List Line) (P : Schedule) (at : ℕ) → drop at (linesOf bs) ≡ ls
+      → KeptPaper bs (readRunsBy former I left P (suc at) ls) (readRunsBy current I left P (suc at) ls)
+  unfolding readRunsBy
+  runs-kept zero ls P at e = moves-kept (fileCount I) ls P at e
+  runs-kept (suc left) [] P at e = paperSame refl
+  runs-kept (suc left) (l ∷ ls) P at e =
+      elim (due-kept (runOf (suc (taskCount I - suc left))) (scheduleLineBy former I l) (scheduleLine I l) (paper-line I l)) [
+        | isLong q h ↦ paperLong at (rw (q, readRunsBy)) (subst LongInPaper (line-behind bs at l ls e) h)
+        | isLarge q h ↦ absurd h
+        | isSame q ↦
+            by-reading (due (runOf (suc (taskCount I - suc left))) (scheduleLineBy former I l))
+            (λ w d. paperSame (rw (d, sym q ∙ d, readRunsBy)))
+            (λ r d. rw (d, sym q ∙ d, readRunsBy) (runs-kept left ls (withRun P r) (suc at) (lines-behind bs at l ls e)))
+      ]
+
+  paper-kept : KeptPaper bs (readScheduleBy former I bs) (readScheduleBy current I bs)
+  unfolding readScheduleBy
+  paper-kept = split (leb (length bs) maxText)
+      (λ s. rw (s, readScheduleBy) (runs-kept (taskCount I) (linesOf bs) (record { runs = []; moves = [] }) 0 refl))
+      (λ s. rw (s, readScheduleBy) (paperSame refl))
+
+-- ---- the marks
+
+module _ (sheet timetable : List ℕ) where
+  abbrev Goal : Type 0
+  Goal = KeptMark sheet timetable (markBy current sheet timetable)
+
+  long-goal : (n : ℕ) → LongOnSheet (lineBehind sheet n) → Outgrown sheet timetable (refusedBy 2 (suc n))
+  long-goal n (form, o, x) = longInSheet n form o x
+
+  large-goal : (n : ℕ) → LargeTime (lineBehind sheet n) → Outgrown sheet timetable (refusedBy 3 (suc n))
+  large-goal n (ofRun i a c e h) = largeRunTime n i a c e h
+  large-goal n (ofMove i j f c e h) = largeMoveTime n i j f c e h
+
+  paper-goal : (I : Instance) → readInstanceBy former sheet ≡ accepted I → readInstanceBy current sheet ≡ accepted I
+      → KeptPaper timetable (readScheduleBy former I timetable) (readScheduleBy current I timetable) → Goal
+  unfolding markBy
+  paper-goal I a b (paperLong n q (form, o, x)) = inr (rw (a, q, markBy) (longInTimetable n form o x))
+  paper-goal I a b (paperSame q) = inl (rw (a, b, q, markBy))
+
+  sheet-goal : KeptSheet sheet (readInstanceBy former sheet) (readInstanceBy current sheet) → Goal
+  unfolding markBy
+  sheet-goal (sheetLong n q h) = inr (rw (q, markBy) (long-goal n h))
+  sheet-goal (sheetLarge n q h) = inr (rw (q, markBy) (large-goal n h))
+  sheet-goal (sheetSame q) = go (readInstanceBy former sheet) refl
+    where
+      go : (x : InstanceRead) → readInstanceBy former sheet ≡ x → Goal
+      go (refused w k) e = inl (rw (e, sym q ∙ e, markBy))
+      go (accepted I) e = paper-goal I e (sym q ∙ e) (paper-kept timetable I)
+
+pub keptMarks : KeptMarks
+keptMarks sheet timetable = sheet-goal sheet timetable (sheet-kept sheet)
+
+-- ---- acceptance
+
+outgrown-refuses : (sheet timetable : List ℕ) {v : Verdict} → Outgrown sheet timetable v → v .number ≡ 0 → ⊥
+outgrown-refuses sheet timetable (longInSheet n form o x) e = omega arith
+outgrown-refuses sheet timetable (largeRunTime n i a c q h) e = omega arith
+outgrown-refuses sheet timetable (largeMoveTime n i j f c q h) e = omega arith
+outgrown-refuses sheet timetable (longInTimetable n form o x) e = omega arith
+
+pub keptAccepted : KeptAccepted
+keptAccepted sheet timetable claim e = elim (keptMarks sheet timetable) [
+  | inl q ↦ q ∙ e
+  | inr o ↦ absurd (outgrown-refuses sheet timetable o (ap (λ v. v .number) e))
+]
+
+refused-accepted : {R : Type 0} {I : Instance} {w : Fault} {k : ℕ} → refused w k ≡ accepted I → R
+refused-accepted e = let z : _≡_ {A = ℕ} 0 1 = cc in absurd (omega arith)
+
+pub keptSheets : KeptSheets
+keptSheets sheet I e = elim (sheet-kept sheet) [
+  | sheetLong n q h ↦ refused-accepted (sym q ∙ e)
+  | sheetLarge n q h ↦ refused-accepted (sym q ∙ e)
+  | sheetSame q ↦ sym q ∙ e
+]
+
+refused-read : {R : Type 0} {P : Schedule} {c : Claim} {w : Fault} {k : ℕ} → refusedTimetable w k ≡ read P c → R
+refused-read e = let z : _≡_ {A = ℕ} 0 1 = cc in absurd (omega arith)
+
+pub keptTimetables : KeptTimetables
+keptTimetables I timetable P c e = elim (paper-kept timetable I) [
+  | paperLong n q h ↦ refused-read (sym q ∙ e)
+  | paperSame q ↦ sym q ∙ e
+]
