@@ -6,6 +6,7 @@
  *   - `result`, `running` and `contents` are arrays of the lengths shown, and never NULL. What they held before plays no part.
  *   - `line`, `out` and these arrays overlap neither a text nor each other. The two texts may overlap, or be one.
  *   - FRAMES_STACK bytes of stack are left.
+ * A tick or a span of a result may take more than 32 bits: keep it in 64.
  * A call uses no heap, no global data and no file, keeps nothing, and always returns; so calls may run at the same time on several threads. */
 #ifndef FRAMES_H
 #define FRAMES_H
@@ -18,7 +19,7 @@ extern "C" {
 #endif
 
 /* The longest text that is read, in bytes. No timetable of a planner is longer (proved: `PlansShort` of crates/rules), so a buffer of this length is
- * never too short. */
+ * never too short; nor is one of 8303 bytes (`PlansInRange`). */
 #define FRAMES_MAX_TEXT 32768
 
 /* Stack that is enough for any call, in bytes. On the largest sheet (64 tasks, 256 files) a planner used 15 KB, the marker, with every file

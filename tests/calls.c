@@ -173,7 +173,7 @@ static void simulator(void) {
     expect_state("an early move", &s, 0, 1, 2, 2);
 }
 
-/* The largest sheet, with the longest times: 64 tasks and 256 files, and a timetable that moves every file, makers on processor 1 and readers on processor 9. */
+/* The largest sheet with the longest times, 64 tasks and 256 files, and a timetable that moves every file, makers on processor 1, readers on 9. */
 static char large[FRAMES_MAX_TEXT];
 static char large_paper[FRAMES_MAX_TEXT];
 

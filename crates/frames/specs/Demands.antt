@@ -15,7 +15,7 @@ use Rattle.rules.specs.Calls.{Answer, markBy, planText, planOn, plan}
 use Rattle.rules.specs.Promises.{MarkedOrRefused, MarkedExactly, WrittenOrRefused, Written, PlannedExactly, AcceptedBack, Completes, Ample, trialsOf}
 use Rattle.rules.specs.CallsExact.{Marking, Planned}
 use Rattle.rules.specs.PlainPlanners.{PlannedPlainly, MarkedBack}
-use Rattle.rules.specs.FinerTicks.{Outgrown, KeptMark, InRange}
+use Rattle.rules.specs.FinerTicks.{RefusedForWidth, KeptMark, InRange}
 use Rattle.rules.specs.SheetFaults.{SheetFault}
 use Rattle.rules.specs.ScheduleFaults.{ScheduleFault}
 use Rattle.rules.specs.Simulation.{Simulation, watch, refusedBy as refusedText}
@@ -35,10 +35,10 @@ pub record MarkerDemands (sheet paper : List ℕ) (v : Verdict) : Type 0 where
   -- for an accepted sheet, 11 to 14 at k exactly if the paper has that fault first, at line k. Not: 14 at line 1 for every paper refused
   pub paperFault : (I : Instance) → readInstance sheet ≡ accepted I → (w : Fault) (k : ℕ)
       → (v ≡ refusedBy (faultNumber inTimetable w) k) ↔ ScheduleFault I paper w k
-  -- Order 5: the mark that the former widths give, or that one refuses a line for a number too long or too large. Not: an old paper's licence lost
+  -- Order 5: the mark that the former widths give, or that one refuses a line for a number too long or too large. Not: an old acceptance lost
   pub kept : KeptMark sheet paper v
   -- and such a refusal is not given now. Not: ten digits refused as they were
-  pub changed : Outgrown sheet paper (markBy former sheet paper) → v ≡ markBy former sheet paper → ⊥
+  pub changed : RefusedForWidth sheet paper (markBy former sheet paper) → v ≡ markBy former sheet paper → ⊥
 
 -- what every planner's answer a promises, with the bytes that the lent buffer then holds
 pub record PlannerDemands (R : Planner) (sheet buffer : List ℕ) (a : Answer) : Type 0 where

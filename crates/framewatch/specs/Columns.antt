@@ -12,7 +12,7 @@ mostDigits = 20
 abbrev pub rowColumn : ℕ
 rowColumn = 19
 
--- a memory's limit takes at most so many, and its total too
+-- a memory's limit takes at most so many, the digits of the greatest M, and its total too
 abbrev pub limitColumns : ℕ
 limitColumns = 9
 

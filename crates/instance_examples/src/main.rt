@@ -39,7 +39,7 @@ fn too_long() {
     show(&[b'\n'; Board::MAX_TEXT]);
 }
 
-// Number 2: absent lines, lines without LF, and lines of no form. Ten digits are in it as they were, and are 3 since Order 5.
+// Number 2: absent lines, lines without LF, and lines of no form. The sheet with ten digits was 2 until Order 5, and is 3.
 fn malformed() {
     show(b"");
     show(b"(board (blue 1 6) (red 1 6))\n");
@@ -56,8 +56,8 @@ fn malformed() {
     show(b"(board (blue 1 6) (red 1 6))\n(task 1 00 2)\n");
 }
 
-// Number 3: a number out of its range, also in a line of the wrong kind. Run times of 1000001 are in it as they were, and are accepted since
-// Order 5.
+// Number 3: a number out of its range, also in a line of the wrong kind. The two sheets with a run time of 1000001 were
+// 3 until Order 5, and are accepted.
 fn out_of_range() {
     show(b"(board (blue 9 6) (red 1 6))\n(task 1 4 2)\n");
     show(b"(board (blue 1 6) (red 0 6))\n(task 1 4 2)\n");

@@ -177,7 +177,7 @@ fn order_of_refusals() {
         b"(run 1 2 0)\n(run 2 1 3)\n(run 3 1 6)\n(move 1 2 2)\n(move 1 3 3)\n(claim 7 5 5)\n",
     );
     show(
-        b"18: a span longer than the claim",
+        b"18: a span longer than the one claimed",
         b"(board (blue 1 9) (red 1 9))\n(task 1 1000000 1)\n",
         b"(run 1 1 999999999)\n(claim 999999999 0 0)\n",
     );

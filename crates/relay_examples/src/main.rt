@@ -243,7 +243,7 @@ fn last() {
 }
 
 // The same at a tick of nine digits.
-fn last_tick() {
+fn late_tick() {
     let paper = b"(run 1 1 999999999)\n(run 2 1 999999999)\n(claim 999999999 5 0)\n";
     show(
         b"a relay at tick 999999999",
@@ -378,7 +378,7 @@ fn main() {
     released();
     chained();
     last();
-    last_tick();
+    late_tick();
     two_last();
     alone();
     over_colours();

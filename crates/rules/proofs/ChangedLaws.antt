@@ -17,7 +17,7 @@ use Rattle.rules.specs.Calls.{mark}
 use Rattle.rules.specs.SheetFaults as Sheet
 use Rattle.rules.specs.ScheduleFaults as Paper
 use Rattle.rules.specs.FinerTicks.{lineBehind, OneOf, first, second, third, NumberLaw}
-use Rattle.rules.specs.FinerTicks.{Outgrown, longInSheet, largeRunTime, largeMoveTime, longInTimetable, ChangedMarks}
+use Rattle.rules.specs.FinerTicks.{RefusedForWidth, longInSheet, largeRunTime, largeMoveTime, longInTimetable, ChangedMarks}
 use Rattle.rules.proofs.FormLaws.{none-some}
 use Rattle.rules.proofs.NumeralLaws.{spelled, digits-are, value-decimal, numeral-decimal, read-bound}
 use Rattle.rules.proofs.ReadingLaws.{wrong-right}
@@ -126,7 +126,7 @@ module _ (n : ℕ) where
 -- ---- the marks
 
 -- no mark now refuses such a line for such a number
-not-now : (sheet timetable : List ℕ) {v : Verdict} → Outgrown sheet timetable v → mark sheet timetable ≡ v → ⊥
+not-now : (sheet timetable : List ℕ) {v : Verdict} → RefusedForWidth sheet timetable v → mark sheet timetable ≡ v → ⊥
 not-now sheet timetable (longInSheet n form o x) e =
     let q = x .isEnded in
     sheet-formed form (x .bytes) (x .numbers) o (x .hasForm) (rw q at (marked-sheet n sheet timetable malformed malformed-undue e))

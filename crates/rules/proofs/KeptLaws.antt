@@ -19,7 +19,7 @@ use Rattle.rules.specs.InstanceText.{readRestBy, readLinesBy, readInstan
 use Rattle.rules.specs.ScheduleText.{runForm, moveForm, claimForm, ScheduleLine, scheduleLineBy, scheduleLine, runOf, moveOf, claimOf}
 use Rattle.rules.specs.ScheduleText.{ScheduleRead, refused as refusedTimetable, read, readEndBy, readClaimBy, withMove, readMovesBy, withRun, readRunsBy, readScheduleBy}
 use Rattle.rules.specs.Calls.{markBy}
-use Rattle.rules.specs.FinerTicks.{lineBehind, Outgrown, longInSheet, largeRunTime, largeMoveTime, longInTimetable, KeptMark, KeptMarks, KeptAccepted, KeptSheets, KeptTimetables}
+use Rattle.rules.specs.FinerTicks.{lineBehind, RefusedForWidth, longInSheet, largeRunTime, largeMoveTime, longInTimetable, KeptMark, KeptMarks, KeptAccepted, KeptSheets, KeptTimetables}
 use Rattle.rules.proofs.Tests.{split}
 use Rattle.rules.proofs.ReadingLaws.{by-reading}
 use Rattle.rules.proofs.KeptLineLaws.{isLong, isLarge, isSame, due-kept, LongIn, LargeTime, ofRun, ofMove, sheet-line, paper-line}
@@ -169,10 +169,10 @@ module _ (sheet timetable : List ℕ) where
   abbrev Goal : Type 0
   Goal = KeptMark sheet timetable (markBy current sheet timetable)
 
-  long-goal : (n : ℕ) → LongOnSheet (lineBehind sheet n) → Outgrown sheet timetable (refusedBy 2 (suc n))
+  long-goal : (n : ℕ) → LongOnSheet (lineBehind sheet n) → RefusedForWidth sheet timetable (refusedBy 2 (suc n))
   long-goal n (form, o, x) = longInSheet n form o x
 
-  large-goal : (n : ℕ) → LargeTime (lineBehind sheet n) → Outgrown sheet timetable (refusedBy 3 (suc n))
+  large-goal : (n : ℕ) → LargeTime (lineBehind sheet n) → RefusedForWidth sheet timetable (refusedBy 3 (suc n))
   large-goal n (ofRun i a c e h) = largeRunTime n i a c e h
   large-goal n (ofMove i j f c e h) = largeMoveTime n i j f c e h
 
@@ -197,16 +197,16 @@ keptMarks sheet timetable = sheet-goal sheet timetable (sheet-kept sheet)
 
 -- ---- acceptance
 
-outgrown-refuses : (sheet timetable : List ℕ) {v : Verdict} → Outgrown sheet timetable v → v .number ≡ 0 → ⊥
-outgrown-refuses sheet timetable (longInSheet n form o x) e = omega arith
-outgrown-refuses sheet timetable (largeRunTime n i a c q h) e = omega arith
-outgrown-refuses sheet timetable (largeMoveTime n i j f c q h) e = omega arith
-outgrown-refuses sheet timetable (longInTimetable n form o x) e = omega arith
+for-width-refuses : (sheet timetable : List ℕ) {v : Verdict} → RefusedForWidth sheet timetable v → v .number ≡ 0 → ⊥
+for-width-refuses sheet timetable (longInSheet n form o x) e = omega arith
+for-width-refuses sheet timetable (largeRunTime n i a c q h) e = omega arith
+for-width-refuses sheet timetable (largeMoveTime n i j f c q h) e = omega arith
+for-width-refuses sheet timetable (longInTimetable n form o x) e = omega arith
 
 pub keptAccepted : KeptAccepted
 keptAccepted sheet timetable claim e = elim (keptMarks sheet timetable) [
   | inl q ↦ q ∙ e
-  | inr o ↦ absurd (outgrown-refuses sheet timetable o (ap (λ v. v .number) e))
+  | inr o ↦ absurd (for-width-refuses sheet timetable o (ap (λ v. v .number) e))
 ]
 
 refused-accepted : {R : Type 0} {I : Instance} {w : Fault} {k : ℕ} → refused w k ≡ accepted I → R

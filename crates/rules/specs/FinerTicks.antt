@@ -7,7 +7,7 @@ use mathlib.Core.Logic.{_↔_, _⊎_}
 use mathlib.Core.Option.{some}
 use mathlib.Core.List.{List, []}
 use lib.ListN.{length, getD}
-use Rattle.rules.specs.Limits.{runTimes, moveTimes, ticks, former}
+use Rattle.rules.specs.Limits.{maxDigits, runTimes, moveTimes, ticks, former}
 use Rattle.rules.specs.Model.{Colour, Task, timeOn, Instance, taskCount, fileCount, Schedule}
 use Rattle.rules.specs.Validity.{Claim, Verdict, acceptedWith, refusedBy, makespan, trueClaim}
 use Rattle.rules.specs.Scheduling.{Planner, complete, outcome}
@@ -45,20 +45,20 @@ pub record LongNumber (form : List ℕ) (l : Line) : Type 0 where
   pub long : former .digits < length (decimal (getD numbers which 0))
 
 -- a mark by the former widths that refuses a line for a number too long (2 and 12: the line has its form, by the widths now) or too large
--- (3: the line is readable now). 13 is not among them: of nine digits no start and no claim is too large
-pub data Outgrown (sheet timetable : List ℕ) : Verdict → Type 0 where
+-- (3: the line is readable now). 13 is not among them: no start, move or claim of nine digits was too large
+pub data RefusedForWidth (sheet timetable : List ℕ) : Verdict → Type 0 where
   longInSheet : (n : ℕ) (form : List ℕ) → OneOf boardForm taskForm fileForm form → LongNumber form (lineBehind sheet n)
-      → Outgrown sheet timetable (refusedBy 2 (suc n))
+      → RefusedForWidth sheet timetable (refusedBy 2 (suc n))
   largeRunTime : (n i : ℕ) (a : Task) (c : Colour) → instanceLine (lineBehind sheet n) ≡ right (taskLine i a) → former .runTimes .most < timeOn c a
-      → Outgrown sheet timetable (refusedBy 3 (suc n))
+      → RefusedForWidth sheet timetable (refusedBy 3 (suc n))
   largeMoveTime : (n i j f c : ℕ) → instanceLine (lineBehind sheet n) ≡ right (fileLine i j f c) → former .moveTimes .most < c
-      → Outgrown sheet timetable (refusedBy 3 (suc n))
+      → RefusedForWidth sheet timetable (refusedBy 3 (suc n))
   longInTimetable : (n : ℕ) (form : List ℕ) → OneOf runForm moveForm claimForm form → LongNumber form (lineBehind timetable n)
-      → Outgrown sheet timetable (refusedBy 12 (suc n))
+      → RefusedForWidth sheet timetable (refusedBy 12 (suc n))
 
 -- the mark v of a sheet and a timetable is the one that the former widths give, or that one refuses a line for a number too long or too large
 abbrev pub KeptMark : List ℕ → List ℕ → Verdict → Type 0
-KeptMark sheet timetable v = (v ≡ markBy former sheet timetable) ⊎ Outgrown sheet timetable (markBy former sheet timetable)
+KeptMark sheet timetable v = (v ≡ markBy former sheet timetable) ⊎ RefusedForWidth sheet timetable (markBy former sheet timetable)
 
 -- old papers keep their marks except those refused for a number too long or too large.
 -- Not: a paper accepted then and refused now; another place for an old fault. Alone it is met by the former marker; ChangedMarks rules that out
@@ -69,9 +69,9 @@ KeptMarks = (sheet timetable : List ℕ) → KeptMark sheet timetable (mark shee
 -- Not: ten digits refused as they were; C's range left as it was. Alone it is met by a marker that changes every mark; KeptMarks rules that out
 abbrev pub ChangedMarks : Type 0
 ChangedMarks =
-    (sheet timetable : List ℕ) → Outgrown sheet timetable (markBy former sheet timetable) → mark sheet timetable ≡ markBy former sheet timetable → ⊥
+    (sheet timetable : List ℕ) → RefusedForWidth sheet timetable (markBy former sheet timetable) → mark sheet timetable ≡ markBy former sheet timetable → ⊥
 
--- a paper accepted then is accepted now, with the span and peaks it had. Not: a licence lost
+-- a paper accepted then is accepted now, with the span and peaks it had. Not: an acceptance lost
 abbrev pub KeptAccepted : Type 0
 KeptAccepted = (sheet timetable : List ℕ) (claim : Claim) → markBy former sheet timetable ≡ acceptedWith claim → mark sheet timetable ≡ acceptedWith claim
 
@@ -88,12 +88,23 @@ KeptTimetables =
 
 -- ---- a planner's numbers
 
+-- the bytes that a line of a timetable has at most with its LF, two digits for a task or a processor: 25, 26 and 47
+abbrev pub runBytes : ℕ
+runBytes = 13 + maxDigits
+
+abbrev pub moveBytes : ℕ
+moveBytes = 14 + maxDigits
+
+abbrev pub claimBytes : ℕ
+claimBytes = 11 + 3 * maxDigits
+
 -- every number of a complete timetable and its true claim is in its range; the span is at most a move, a run and one tick more for each task, which is
--- 64 × 2000000001 = 128000000064 ticks at most; the text has 25 bytes for each task, 26 for each file and 47 for the claim, 8303 at most
+-- 64 × 2000000001 = 128000000064 ticks at most; the text has a line for each task, one for each file and the claim, 64 × 25 + 256 × 26 + 47 = 8303 bytes
+-- at most
 pub record InRange (I : Instance) (P : Schedule) : Type 0 where
   pub spellable : Spellable I P (trueClaim I P)
   pub spanBound : makespan I P ≤ taskCount I * (moveTimes .most + runTimes .most + 1)
-  pub textBound : length (planText I P) ≤ taskCount I * 25 + fileCount I * 26 + 47
+  pub textBound : length (planText I P) ≤ taskCount I * runBytes + fileCount I * moveBytes + claimBytes
 
 -- of any planner, the plain ones too, whether or not the buffer is long enough.
 -- Not: a start over 999999999999; a span that no claim can tell. Alone it is met by a rule that is always stuck; AmpleMemory rules that out

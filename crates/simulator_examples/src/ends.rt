@@ -24,7 +24,7 @@ fn untrue_claims() {
         1024,
     );
     show_marked(
-        b"a span longer than the claim",
+        b"a span longer than the one claimed",
         sheet,
         b"(run 1 2 0)\n(run 2 1 3)\n(run 3 1 999999999)\n(move 1 2 2)\n(move 1 3 4)\n(claim 999999999 5 5)\n",
         0,

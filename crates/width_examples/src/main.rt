@@ -1,5 +1,5 @@
-// Numbers on both sides of each edge: the digits of a number, the ranges that Order 5 made wider, and those that it left as they were. Each
-// line says what is shown and how the timetable is marked; under a refusal stands the line at fault.
+// Numbers next to the edges that Order 5 moved (the digits of a number; B, R and C; s, t and the claim), and numbers of 10 to 13 digits
+// where a range is as it was. Each line says what is shown and how the timetable is marked; under a refusal of a line stands that line.
 use console::print_marks;
 use libc::STDOUT_FILENO;
 
@@ -56,12 +56,20 @@ fn wider_on_the_sheet() {
         b"(board (blue 1 0) (red 1 0))\n(task 1 1000000000 1000000001)\n",
     );
     show_sheet(
+        b"R of 12 digits",
+        b"(board (blue 1 0) (red 1 0))\n(task 1 1000000000 999999999999)\n",
+    );
+    show_sheet(
         b"R of 13 digits",
         b"(board (blue 1 0) (red 1 0))\n(task 1 1000000000 1000000000000)\n",
     );
     show_sheet(
         b"C of 1000000001",
         b"(board (blue 1 0) (red 1 0))\n(task 1 1 1)\n(task 2 1 1)\n(file 1 2 0 1000000001)\n",
+    );
+    show_sheet(
+        b"C of 12 digits",
+        b"(board (blue 1 0) (red 1 0))\n(task 1 1 1)\n(task 2 1 1)\n(file 1 2 0 999999999999)\n",
     );
     show_sheet(
         b"C of 13 digits",
@@ -100,6 +108,10 @@ fn narrow_on_the_sheet() {
         b"(board (blue 1000000000 0) (red 1 0))\n(task 1 1 1)\n",
     );
     show_sheet(
+        b"P of 12 digits",
+        b"(board (blue 1 0) (red 100000000000 0))\n(task 1 1 1)\n",
+    );
+    show_sheet(
         b"P of 13 digits",
         b"(board (blue 1000000000000 0) (red 1 0))\n(task 1 1 1)\n",
     );
@@ -108,8 +120,20 @@ fn narrow_on_the_sheet() {
         b"(board (blue 1 0) (red 1 0))\n(task 1000000000 1 1)\n",
     );
     show_sheet(
+        b"i of 12 digits",
+        b"(board (blue 1 0) (red 1 0))\n(task 100000000000 1 1)\n",
+    );
+    show_sheet(
         b"i of 13 digits",
         b"(board (blue 1 0) (red 1 0))\n(task 1000000000000 1 1)\n",
+    );
+    show_sheet(
+        b"i of a file of 12 digits",
+        b"(board (blue 1 0) (red 1 0))\n(task 1 1 1)\n(file 100000000000 2 1 1)\n",
+    );
+    show_sheet(
+        b"i of a file of 13 digits",
+        b"(board (blue 1 0) (red 1 0))\n(task 1 1 1)\n(file 1000000000000 2 1 1)\n",
     );
     show_sheet(
         b"j of 12 digits",
@@ -118,6 +142,11 @@ fn narrow_on_the_sheet() {
     show_sheet(
         b"j of 13 digits",
         b"(board (blue 1 0) (red 1 0))\n(task 1 1 1)\n(file 1 1000000000000 1 1)\n",
+    );
+    show(
+        b"F of 1000000",
+        b"(board (blue 1 1000000) (red 1 0))\n(task 1 1 1)\n(task 2 1 1)\n(file 1 2 1000000 1)\n",
+        b"(run 1 1 0)\n(run 2 1 1)\n(claim 2 1000000 0)\n",
     );
     show_sheet(
         b"F of 1000001",
@@ -192,9 +221,12 @@ fn wider_in_the_timetable() {
 // i, j and p: as they were.
 fn narrow_in_the_timetable() {
     show_paper(b"p of 10 digits", b"(run 1 1000000000 0)\n");
+    show_paper(b"p of 12 digits", b"(run 1 100000000000 0)\n");
     show_paper(b"p of 13 digits", b"(run 1 1000000000000 0)\n");
     show_paper(b"i of a run of 12 digits", b"(run 100000000000 1 0)\n");
     show_paper(b"i of a run of 13 digits", b"(run 1000000000000 1 0)\n");
+    show_paper(b"i of a move of 12 digits", b"(move 100000000000 1 0)\n");
+    show_paper(b"i of a move of 13 digits", b"(move 1000000000000 1 0)\n");
     show_paper(b"j of a move of 10 digits", b"(move 1 1000000000 0)\n");
     show_paper(b"j of a move of 13 digits", b"(move 1 1000000000000 0)\n");
 }

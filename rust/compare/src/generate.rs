@@ -113,6 +113,18 @@ pub fn write_sheet(sheet: &Sheet) -> String {
     text
 }
 
+/// A sound sheet with each time so many times as long.
+pub fn finer(text: &[u8], by: i64) -> Vec<u8> {
+    let mut sheet = read_sheet(text).expect("a sound sheet");
+    sheet
+        .tasks
+        .iter_mut()
+        .flatten()
+        .for_each(|time| *time *= by);
+    sheet.files.iter_mut().for_each(|f| f.time *= by);
+    write_sheet(&sheet).into_bytes()
+}
+
 /// The sum of all file sizes.
 pub fn sizes(sheet: &Sheet) -> i64 {
     sheet.files.iter().map(|f| f.size).sum()

@@ -2,6 +2,7 @@
 
 pub mod colours;
 pub mod edges;
+pub mod finer;
 pub mod generate;
 pub mod library;
 pub mod plain;

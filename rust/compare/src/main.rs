@@ -11,7 +11,7 @@ use compare::reference::{
     self, Heuristic, Memory, Planned, Planner, Sheet, Table, MAX_TEXT, PLANNERS,
 };
 use compare::relays::{self, has_relays};
-use compare::{colours, plain, stepping, widths};
+use compare::{colours, finer, plain, stepping, widths};
 use std::collections::{BTreeMap, BTreeSet};
 use Heuristic::{Heft, MinMin};
 use Memory::{Aware, Plain};
@@ -29,6 +29,7 @@ struct Tally {
     simulator: stepping::Counts,
     plain: plain::Counts,
     widths: widths::Counts,
+    finer: finer::Counts,
     cases: u64,
 }
 
@@ -310,11 +311,22 @@ fn late_papers(t: &mut Tally, r: &mut Random, sheet: &[u8]) {
     }
 }
 
+/// The planners on a sheet without relays, and on the same in finer ticks.
+fn in_finer_ticks(t: &mut Tally, r: &mut Random, sheet: &[u8]) {
+    let read = reference::read_sheet(sheet).expect("a sound sheet");
+    let most = finer::most(&read);
+    if !has_relays(&read) {
+        let by = if r.one_in(2) { most } else { 1000 };
+        same(t.finer.planned(sheet, by), sheet, b"");
+    }
+}
+
 /// A board that counts in nanoseconds, late timetables on it and on one that does not, and numbers next to the limits.
 fn fine_round(t: &mut Tally, r: &mut Random, number: u64) {
     let tasks = if number.is_multiple_of(50) { 64 } else { 7 };
     let plain = generate::sheet(r, tasks);
     let coarse = drawn(r, plain);
+    in_finer_ticks(t, r, &coarse);
     late_papers(t, r, &coarse);
     let fine = generate::with_fine_times(r, &coarse);
     late_papers(t, r, &fine);
@@ -397,11 +409,13 @@ fn main() {
     t.simulator.print();
     t.plain.print();
     t.widths.print();
+    t.finer.print();
     println!("{} cases, no difference", t.cases);
     let mut faults = [t.relays.faults(), t.colours.faults()].concat();
     faults.extend(t.simulator.faults());
     faults.extend(t.plain.faults());
     faults.extend(t.widths.faults());
+    faults.extend(t.finer.faults());
     if !ok {
         faults.push("an answer was never reached".to_string());
     }

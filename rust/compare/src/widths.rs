@@ -463,7 +463,8 @@ mod tests {
         }
     }
 
-    /// Tasks by turns on both colours: 64 runs, 256 moves and a claim; a first run of 400000000 ticks, then 63 moves and runs of 900000000.
+    /// Tasks by turns on both colours: 64 runs, 256 moves and a claim; a first run of 400000000 ticks, then
+    /// 63 times a move and a run, 900000000 ticks together.
     #[test]
     fn longest_plans() {
         let sheet = by_turns();

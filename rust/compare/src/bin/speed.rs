@@ -1,7 +1,7 @@
 //! How long the planners, the marker and the simulator take on sheets of 8, 32 and 64 tasks, beside the independent implementation: the
 //! median of many calls, in one run on one machine.
 
-use compare::generate::{all_apart, all_moved, large_sheet, Random};
+use compare::generate::{all_apart, all_moved, finer, large_sheet, Random};
 use compare::library::named;
 use compare::reference::{self, Planner, PLANNERS};
 use compare::simulation;
@@ -100,32 +100,37 @@ fn walk(step: impl Fn(u64) -> u64) {
     assert_eq!(made, 640);
 }
 
+/// The rows of a sheet: the planners on it, its reading, and the marker and the simulator on MemMinMin's timetable. `times` stands behind
+/// what is measured.
+fn rows(sheet: &[u8], times: &str) {
+    let read = reference::read_sheet(sheet).expect("a sound sheet");
+    let (tasks, files) = (read.tasks.len(), read.files.len());
+    let row = Row { tasks, files };
+    let mut paper = vec![];
+    for (name, planner) in NAMES.iter().zip(PLANNERS) {
+        paper = row.planner(&format!("{name}{times}"), planner, sheet);
+    }
+    let read = median(|| {
+        frames::mark(sheet, b"");
+    });
+    row.print(
+        &format!("sheet read{times}"),
+        read,
+        median(|| drop(reference::read_sheet(sheet))),
+    );
+    row.marker(&format!("marker{times}"), sheet, &paper);
+    row.simulator(&format!("simulator{times}"), sheet, &paper);
+}
+
 fn main() {
     let mut r = Random(64);
     println!("| tasks | files | what | proved, µs | independent, µs |");
     println!("|---|---|---|---|---|");
-    for tasks in [8, 32, 64] {
-        let sheet = large_sheet(&mut r, tasks).into_bytes();
-        let files = reference::read_sheet(&sheet)
-            .expect("a sound sheet")
-            .files
-            .len();
-        let row = Row { tasks, files };
-        let mut paper = vec![];
-        for (name, planner) in NAMES.iter().zip(PLANNERS) {
-            paper = row.planner(name, planner, &sheet);
-        }
-        let read = median(|| {
-            frames::mark(&sheet, b"");
-        });
-        row.print(
-            "sheet read",
-            read,
-            median(|| drop(reference::read_sheet(&sheet))),
-        );
-        row.marker("marker", &sheet, &paper);
-        row.simulator("simulator", &sheet, &paper);
+    let sheets = [8, 32, 64].map(|tasks| large_sheet(&mut r, tasks).into_bytes());
+    for sheet in &sheets {
+        rows(sheet, "");
     }
+    rows(&finer(&sheets[2], 1_000_000), ", times × 1000000");
     let largest = Row {
         tasks: 64,
         files: 256,
