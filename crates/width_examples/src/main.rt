@@ -29,8 +29,8 @@ fn show_sheet<'a>(what: &'a [u8], sheet: &'a [u8]) {
     show(what, sheet, b"(run 1 1 0)\n(claim 1000000000 0 0)\n");
 }
 
-// B, R and C: to 1000000000.
-fn wider_on_the_sheet() {
+// B: to 1000000000.
+fn run_time_on_blue() {
     show_sheet(
         b"B of 1000000000",
         b"(board (blue 1 0) (red 1 0))\n(task 1 1000000000 1)\n",
@@ -47,6 +47,10 @@ fn wider_on_the_sheet() {
         b"B of 13 digits",
         b"(board (blue 1 0) (red 1 0))\n(task 1 1000000000000 1)\n",
     );
+}
+
+// R: to 1000000000.
+fn run_time_on_red() {
     show_sheet(
         b"R of 1000000000",
         b"(board (blue 1 0) (red 1 0))\n(task 1 1000000000 1000000000)\n",
@@ -63,6 +67,10 @@ fn wider_on_the_sheet() {
         b"R of 13 digits",
         b"(board (blue 1 0) (red 1 0))\n(task 1 1000000000 1000000000000)\n",
     );
+}
+
+// C: to 1000000000.
+fn move_time() {
     show_sheet(
         b"C of 1000000001",
         b"(board (blue 1 0) (red 1 0))\n(task 1 1 1)\n(task 2 1 1)\n(file 1 2 0 1000000001)\n",
@@ -85,8 +93,8 @@ fn wider_on_the_sheet() {
     );
 }
 
-// P, M, i, j and F: as they were. From 10 to 12 digits a number is out of range, with 13 the line has no form.
-fn narrow_on_the_sheet() {
+// M: as it was. From 10 to 12 digits a number is out of range, with 13 the line has no form; so it is with each range that stayed.
+fn memory_limit() {
     show_sheet(
         b"M of 999999999",
         b"(board (blue 1 999999999) (red 1 0))\n(task 1 1000000000 1)\n",
@@ -103,6 +111,10 @@ fn narrow_on_the_sheet() {
         b"M of 13 digits",
         b"(board (blue 1 0) (red 1 1000000000000))\n(task 1 1 1)\n",
     );
+}
+
+// P: as it was.
+fn processors() {
     show_sheet(
         b"P of 10 digits",
         b"(board (blue 1000000000 0) (red 1 0))\n(task 1 1 1)\n",
@@ -115,6 +127,10 @@ fn narrow_on_the_sheet() {
         b"P of 13 digits",
         b"(board (blue 1000000000000 0) (red 1 0))\n(task 1 1 1)\n",
     );
+}
+
+// i of a task: as it was.
+fn task_of_a_task() {
     show_sheet(
         b"i of 10 digits",
         b"(board (blue 1 0) (red 1 0))\n(task 1000000000 1 1)\n",
@@ -127,6 +143,10 @@ fn narrow_on_the_sheet() {
         b"i of 13 digits",
         b"(board (blue 1 0) (red 1 0))\n(task 1000000000000 1 1)\n",
     );
+}
+
+// i and j of a file: as they were.
+fn tasks_of_a_file() {
     show_sheet(
         b"i of a file of 12 digits",
         b"(board (blue 1 0) (red 1 0))\n(task 1 1 1)\n(file 100000000000 2 1 1)\n",
@@ -143,6 +163,10 @@ fn narrow_on_the_sheet() {
         b"j of 13 digits",
         b"(board (blue 1 0) (red 1 0))\n(task 1 1 1)\n(file 1 1000000000000 1 1)\n",
     );
+}
+
+// F: as it was.
+fn size() {
     show(
         b"F of 1000000",
         b"(board (blue 1 1000000) (red 1 0))\n(task 1 1 1)\n(task 2 1 1)\n(file 1 2 1000000 1)\n",
@@ -162,8 +186,8 @@ fn narrow_on_the_sheet() {
     );
 }
 
-// s, t and the claim's numbers: to 999999999999.
-fn wider_in_the_timetable() {
+// s: to 999999999999.
+fn start() {
     show_paper(
         b"s of 999999999",
         b"(run 1 1 999999999)\n(claim 1000000000 0 0)\n",
@@ -180,6 +204,10 @@ fn wider_in_the_timetable() {
         b"s of 999999999999, a task that takes no time",
         b"(run 1 2 999999999999)\n(claim 999999999999 0 0)\n",
     );
+}
+
+// A span that no claim can tell.
+fn span_over_the_range() {
     show_paper(
         b"s of 999999999999, the span over the range",
         b"(run 1 1 999999999999)\n(claim 999999999999 0 0)\n",
@@ -188,6 +216,10 @@ fn wider_in_the_timetable() {
         b"the same with the span claimed in 13 digits",
         b"(run 1 1 999999999999)\n(claim 1000000000000 0 0)\n",
     );
+}
+
+// Starts that are no numbers: 13 digits, a leading 0.
+fn long_start() {
     show_paper(
         b"s of 13 digits",
         b"(run 1 1 1000000000000)\n(claim 1 0 0)\n",
@@ -196,6 +228,10 @@ fn wider_in_the_timetable() {
         b"s of 12 digits with a leading 0",
         b"(run 1 1 099999999999)\n(claim 1 0 0)\n",
     );
+}
+
+// b and r: to 999999999999.
+fn peak() {
     show_paper(
         b"a peak of 12 digits",
         b"(run 1 1 0)\n(claim 1 999999999999 0)\n",
@@ -204,6 +240,10 @@ fn wider_in_the_timetable() {
         b"a peak of 13 digits",
         b"(run 1 1 0)\n(claim 1 0 1000000000000)\n",
     );
+}
+
+// t: to 999999999999.
+fn move_start() {
     show_move(
         b"t of 998999999998",
         b"(run 1 1 998999999997)\n(run 2 2 999999999998)\n(move 1 2 998999999998)\n(claim 999999999999 5 5)\n",
@@ -218,13 +258,21 @@ fn wider_in_the_timetable() {
     );
 }
 
-// i, j and p: as they were.
-fn narrow_in_the_timetable() {
+// p: as it was.
+fn processor() {
     show_paper(b"p of 10 digits", b"(run 1 1000000000 0)\n");
     show_paper(b"p of 12 digits", b"(run 1 100000000000 0)\n");
     show_paper(b"p of 13 digits", b"(run 1 1000000000000 0)\n");
+}
+
+// i of a run: as it was.
+fn task_of_a_run() {
     show_paper(b"i of a run of 12 digits", b"(run 100000000000 1 0)\n");
     show_paper(b"i of a run of 13 digits", b"(run 1000000000000 1 0)\n");
+}
+
+// i and j of a move: as they were.
+fn tasks_of_a_move() {
     show_paper(b"i of a move of 12 digits", b"(move 100000000000 1 0)\n");
     show_paper(b"i of a move of 13 digits", b"(move 1000000000000 1 0)\n");
     show_paper(b"j of a move of 10 digits", b"(move 1 1000000000 0)\n");
@@ -232,8 +280,20 @@ fn narrow_in_the_timetable() {
 }
 
 fn main() {
-    wider_on_the_sheet();
-    narrow_on_the_sheet();
-    wider_in_the_timetable();
-    narrow_in_the_timetable();
+    run_time_on_blue();
+    run_time_on_red();
+    move_time();
+    memory_limit();
+    processors();
+    task_of_a_task();
+    tasks_of_a_file();
+    size();
+    start();
+    span_over_the_range();
+    long_start();
+    peak();
+    move_start();
+    processor();
+    task_of_a_run();
+    tasks_of_a_move();
 }
