@@ -20,14 +20,13 @@ use Rattle.rules.proofs.ScheduleFaultLaws.{scheduleFaults}
 use Rattle.rules.proofs.MarkerLaws.{markerEnds, markerExact, mark-sheet, mark-timetable}
 use Rattle.rules.proofs.PlannerLaws.{plannerEnds, plannerExact, plansShort, plansInRange, readBack, ampleMemory, plan-refused, plan-trials}
 use Rattle.rules.proofs.CallsExactLaws.{markCall, planCall}
-use Rattle.rules.proofs.KeptLaws.{keptMarks, keptSheets, keptTimetables}
+use Rattle.rules.proofs.KeptLaws.{keptMarks, keptPlans, keptSimulations}
 use Rattle.rules.proofs.ChangedLaws.{changedMarks}
 use Rattle.rules.proofs.PlainPlannerLaws.{heftTrials, plainExact, neverStuck, planMarked, plainParent, ampleReadBack}
 use Rattle.rules.specs.Simulation.{Simulation, simulate}
-use Rattle.rules.proofs.SimulatorLaws.{simulatorLaw, simulate-sheet, simulate-timetable, simulate-read}
+use Rattle.rules.proofs.SimulatorLaws.{simulatorLaw, simulate-sheet, simulate-timetable}
 use Rattle.rules.proofs.SimulationExactLaws.{textExact, numbersTell}
 use Rattle.rules.proofs.TrialLaws.{trialBound}
-use Rattle.frames.proofs.PlanLaws.{plan-on}
 use Rattle.frames.specs.Demands.{MarkerDemands, PlannerDemands, AwareDemands, PlainDemands, TwoTrialsATask, SimulatorDemands}
 use Rattle.rules.proofs.FaultLaws.{marked-by-sheet, marked-by-paper, planned-by-sheet, sheet-numbers}
 
@@ -79,7 +78,7 @@ module _ (R : Planner) (sheet buffer : List ℕ) where
     ample = λ I e ample. let C = ampleMemory R sheet I e ample in (C, C .success buffer);
     trials = λ I e. let q = plan-trials R sheet buffer I e in (q, rw q (trialBound R I));
     inRange = λ I e n. written-range I e (plannerExact R sheet buffer I e .written n);
-    oldSheet = λ I e. plan-on R sheet buffer I (keptSheets sheet I e);
+    kept = keptPlans R sheet buffer;
   }
 
   pub planner-demands : {a : Answer} → a ≡ plan R sheet buffer → PlannerDemands R sheet buffer a
@@ -112,7 +111,7 @@ module _ (sheet paper : List ℕ) (made steps : ℕ) where
       (λ e. mark-demands sheet paper .paperFault I s w k .0 (textExact sheet paper made steps (faultNumber inTimetable w) k .0 e .0)),
       (λ f. ap (λ a. a .progress) (simulate-timetable sheet paper I w k s (scheduleFaults I paper w k .1 f) made steps)),
     );
-    oldTexts = λ I P c e f. simulate-read sheet paper I P c (keptSheets sheet I e) (keptTimetables I paper P c f) made steps;
+    kept = keptSimulations sheet paper made steps;
   }
 
   pub simulator-demands : {a : Simulation} → a ≡ simulate sheet paper made steps → SimulatorDemands sheet paper made steps a

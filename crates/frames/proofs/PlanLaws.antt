@@ -21,7 +21,7 @@ use Rattle.instance.specs.Reads.{asRead}
 use Rattle.instance.proofs.AcceptedLaws.{read-accepted, read-refused}
 use Rattle.plan_text.proofs.AnswerLaws.{answer}
 
-pub plan-on : (R : Planner) (sheet buffer : List ℕ) (I : Instance) → readInstance sheet ≡ Sheet.accepted I → plan R sheet buffer ≡ planOn R I buffer
+plan-on : (R : Planner) (sheet buffer : List ℕ) (I : Instance) → readInstance sheet ≡ Sheet.accepted I → plan R sheet buffer ≡ planOn R I buffer
 plan-on R sheet buffer I e = by-outcome (outcome R I) refl
   where
     by-outcome : (x : Rules.Outcome) → outcome R I ≡ x → plan R sheet buffer ≡ planOn R I buffer

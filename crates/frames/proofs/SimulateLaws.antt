@@ -8,7 +8,7 @@ use Rattle.rules.specs.InstanceText as Sheet
 use Rattle.rules.specs.InstanceText.{readInstance}
 use Rattle.rules.specs.ScheduleText as Paper
 use Rattle.rules.specs.ScheduleText.{readSchedule}
-use Rattle.rules.specs.Simulation.{Simulation, numberOf, placeOf, leftOf, spanOf, refusedText, simulateOn, simulate}
+use Rattle.rules.specs.Simulation.{Simulation, numberOf, placeOf, leftOf, spanOf, refusedText, simulateOn, simulateBy, simulate}
 use Rattle.rules.proofs.SimulatorLaws.{simulate-sheet}
 use Rattle.text.specs.declared.faults.Fault.{Fault}
 use Rattle.text.specs.Faults.{asFault}
@@ -22,12 +22,12 @@ use Rattle.frames.specs.Exports.{simulationNumbers}
 
 simulate-accepted : (sheet timetable : List ℕ) (made steps : ℕ) (I : Instance) → readInstance sheet ≡ Sheet.accepted I
     → simulate sheet timetable made steps ≡ simulateOn I timetable made steps
-unfolding simulate
+unfolding simulateBy
 simulate-accepted sheet timetable made steps I e = by-read (readSchedule I timetable) refl
   where
     by-read : (x : Paper.ScheduleRead) → readSchedule I timetable ≡ x → simulate sheet timetable made steps ≡ simulateOn I timetable made steps
-    by-read (Paper.refused w k) f = rw (e, f, simulate)
-    by-read (Paper.read P c) f = rw (e, f, simulate)
+    by-read (Paper.refused w k) f = rw (e, f, simulateBy)
+    by-read (Paper.read P c) f = rw (e, f, simulateBy)
 
 module _ (sheet timetable : List ℕ) (made steps : ℕ) (xs : List ℕ) (r : InstanceRead) (read : asInstance r xs ≡ readInstance sheet) {a : Simulation} where
   pub simulated-on : {b : Shape} → r ≡ SheetRead.Accepted b → a ≡ simulateOn (instanceFrom b (jobOf xs)) timetable made steps

@@ -1,24 +1,23 @@
 -- The demands as clauses of the public contracts: what rules' promises say of the answer at hand.
-use Prim.Native.Nat.{ℕ, _+_, _*_, _≤_, min}
+use Prim.Native.Nat.{ℕ, _+_, _*_, _≤_}
 use mathlib.Core.Path.{_≡_}
 use mathlib.Core.Logic.{_↔_}
 use mathlib.Core.List.{List}
 use lib.ListN.{length}
-use Rattle.rules.specs.Limits.{maxText, maxSteps, former}
-use Rattle.rules.specs.Model.{Instance, taskCount, Schedule}
-use Rattle.rules.specs.Validity.{Claim, Verdict, refusedBy}
+use Rattle.rules.specs.Limits.{maxText, former}
+use Rattle.rules.specs.Model.{Instance, taskCount}
+use Rattle.rules.specs.Validity.{Verdict, refusedBy}
 use Rattle.rules.specs.Scheduling.{Planner, parentOf, outcome}
 use Rattle.rules.specs.Text.{Fault, inSheet, inTimetable, faultNumber}
-use Rattle.rules.specs.InstanceText.{accepted, readInstanceBy, readInstance}
-use Rattle.rules.specs.ScheduleText.{read, readScheduleBy}
-use Rattle.rules.specs.Calls.{Answer, markBy, planText, planOn, plan}
+use Rattle.rules.specs.InstanceText.{accepted, readInstance}
+use Rattle.rules.specs.Calls.{Answer, markBy, planText, plan}
 use Rattle.rules.specs.Promises.{MarkedOrRefused, MarkedExactly, WrittenOrRefused, Written, PlannedExactly, AcceptedBack, Completes, Ample, trialsOf}
 use Rattle.rules.specs.CallsExact.{Marking, Planned}
 use Rattle.rules.specs.PlainPlanners.{PlannedPlainly, MarkedBack}
-use Rattle.rules.specs.FinerTicks.{RefusedForWidth, KeptMark, InRange}
+use Rattle.rules.specs.FinerTicks.{RefusedForWidth, KeptMark, KeptPlan, KeptSimulation, InRange}
 use Rattle.rules.specs.SheetFaults.{SheetFault}
 use Rattle.rules.specs.ScheduleFaults.{ScheduleFault}
-use Rattle.rules.specs.Simulation.{Simulation, watch, refusedBy as refusedText}
+use Rattle.rules.specs.Simulation.{Simulation, refusedBy as refusedText}
 use Rattle.rules.specs.SimulationPromises.{Simulated}
 use Rattle.rules.specs.SimulationExact.{Told}
 
@@ -62,8 +61,8 @@ pub record PlannerDemands (R : Planner) (sheet buffer : List ℕ) (a : Answer) :
   pub trials : (I : Instance) → readInstance sheet ≡ accepted I → (a .trials ≡ trialsOf (outcome R I)) × (a .trials ≤ taskCount I * (taskCount I + 1))
   -- Order 5: every number of what was written is in its range. Not: a start that the marker cannot read. Alone it is met by a planner that never succeeds
   pub inRange : (I : Instance) → readInstance sheet ≡ accepted I → a .number ≡ 0 → (w : Written R I buffer a) × InRange I (w .rule .schedule)
-  -- a sheet that the former widths accept is planned as it was: by the rule, for the job that they read. Not: another plan for an old sheet
-  pub oldSheet : (I : Instance) → readInstanceBy former sheet ≡ accepted I → a ≡ planOn R I buffer
+  -- the answer that the former widths give, or that one refuses the sheet for a number too long or too large. Not: another plan for an old sheet
+  pub kept : KeptPlan R sheet buffer a
 
 -- what the answer of a memory-aware planner promises besides
 pub record AwareDemands (R : Planner) (sheet buffer : List ℕ) (a : Answer) : Type 0 where
@@ -100,6 +99,6 @@ pub record SimulatorDemands (sheet paper : List ℕ) (made steps : ℕ) (a : Sim
   -- for an accepted sheet, 11 to 14 at k exactly if the paper has that fault first, at line k. Not: a paper with no claim walked through
   pub paperFault : (I : Instance) → readInstance sheet ≡ accepted I → (w : Fault) (k : ℕ)
       → (a .progress ≡ refusedText (faultNumber inTimetable w) k) ↔ ScheduleFault I paper w k
-  -- Order 5: texts that the former widths read are walked through as they were. Not: another state for an old timetable
-  pub oldTexts : (I : Instance) (P : Schedule) (c : Claim) → readInstanceBy former sheet ≡ accepted I → readScheduleBy former I paper ≡ read P c
-      → a ≡ watch I P (made + min steps maxSteps)
+  -- Order 5: the answer that the former widths give, or the marker by them refuses a line for a number too long or too large. Not: another state for an
+  -- old timetable
+  pub kept : KeptSimulation sheet paper made steps a

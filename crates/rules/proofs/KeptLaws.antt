@@ -1,4 +1,4 @@
--- Old papers keep their marks: keptMarks, keptAccepted; and what was read of a text is: keptSheets, keptTimetables.
+-- Old papers keep their marks, and old sheets their plans: keptMarks, keptAccepted, keptPlans, keptSimulations.
 use Prim.Native.Nat.{ℕ, zero, suc, _+_, _-_}
 use mathlib.Core.Path.{_≡_, refl, sym, ap, subst, _∙_}
 use mathlib.Core.Bool.{true}
@@ -18,8 +18,10 @@ use Rattle.rules.specs.InstanceText.{boardForm, taskForm, fileForm, inst
 use Rattle.rules.specs.InstanceText.{readRestBy, readLinesBy, readInstanceBy}
 use Rattle.rules.specs.ScheduleText.{runForm, moveForm, claimForm, ScheduleLine, scheduleLineBy, scheduleLine, runOf, moveOf, claimOf}
 use Rattle.rules.specs.ScheduleText.{ScheduleRead, refused as refusedTimetable, read, readEndBy, readClaimBy, withMove, readMovesBy, withRun, readRunsBy, readScheduleBy}
-use Rattle.rules.specs.Calls.{markBy}
-use Rattle.rules.specs.FinerTicks.{lineBehind, RefusedForWidth, longInSheet, largeRunTime, largeMoveTime, longInTimetable, KeptMark, KeptMarks, KeptAccepted, KeptSheets, KeptTimetables}
+use Rattle.rules.specs.Scheduling.{Planner}
+use Rattle.rules.specs.Calls.{markBy, planBy}
+use Rattle.rules.specs.Simulation.{simulateBy}
+use Rattle.rules.specs.FinerTicks.{lineBehind, RefusedForWidth, longInSheet, largeRunTime, largeMoveTime, longInTimetable, KeptMark, KeptMarks, KeptAccepted, KeptPlan, KeptPlans, KeptSimulation, KeptSimulations}
 use Rattle.rules.proofs.Tests.{split}
 use Rattle.rules.proofs.ReadingLaws.{by-reading}
 use Rattle.rules.proofs.KeptLineLaws.{isLong, isLarge, isSame, due-kept, LongIn, LargeTime, ofRun, ofMove, sheet-line, paper-line}
@@ -209,21 +211,37 @@ keptAccepted sheet timetable claim e = elim (keptMarks sheet timetable) [
   | inr o ↦ absurd (for-width-refuses sheet timetable o (ap (λ v. v .number) e))
 ]
 
-refused-accepted : {R : Type 0} {I : Instance} {w : Fault} {k : ℕ} → refused w k ≡ accepted I → R
-refused-accepted e = let z : _≡_ {A = ℕ} 0 1 = cc in absurd (omega arith)
+-- ---- the planners and the simulator
 
-pub keptSheets : KeptSheets
-keptSheets sheet I e = elim (sheet-kept sheet) [
-  | sheetLong n q h ↦ refused-accepted (sym q ∙ e)
-  | sheetLarge n q h ↦ refused-accepted (sym q ∙ e)
-  | sheetSame q ↦ sym q ∙ e
-]
+module _ (R : Planner) (sheet buffer : List ℕ) where
+  plan-goal : KeptSheet sheet (readInstanceBy former sheet) (readInstanceBy current sheet) → KeptPlan R sheet buffer (planBy current R sheet buffer)
+  unfolding planBy
+  plan-goal (sheetLong n q h) = inr (rw (q, planBy) (long-goal sheet [] n h))
+  plan-goal (sheetLarge n q h) = inr (rw (q, planBy) (large-goal sheet [] n h))
+  plan-goal (sheetSame q) = inl (rw (q, planBy))
 
-refused-read : {R : Type 0} {P : Schedule} {c : Claim} {w : Fault} {k : ℕ} → refusedTimetable w k ≡ read P c → R
-refused-read e = let z : _≡_ {A = ℕ} 0 1 = cc in absurd (omega arith)
+pub keptPlans : KeptPlans
+keptPlans R sheet buffer = plan-goal R sheet buffer (sheet-kept sheet)
 
-pub keptTimetables : KeptTimetables
-keptTimetables I timetable P c e = elim (paper-kept timetable I) [
-  | paperLong n q h ↦ refused-read (sym q ∙ e)
-  | paperSame q ↦ sym q ∙ e
-]
+module _ (sheet timetable : List ℕ) (made steps : ℕ) where
+  abbrev Simulated : Type 0
+  Simulated = KeptSimulation sheet timetable made steps (simulateBy current sheet timetable made steps)
+
+  paper-simulated : (I : Instance) → readInstanceBy former sheet ≡ accepted I → readInstanceBy current sheet ≡ accepted I
+      → KeptPaper timetable (readScheduleBy former I timetable) (readScheduleBy current I timetable) → Simulated
+  unfolding markBy simulateBy
+  paper-simulated I a b (paperLong n q (form, o, x)) = inr (rw (a, q, markBy) (longInTimetable n form o x))
+  paper-simulated I a b (paperSame q) = inl (rw (a, b, q, simulateBy))
+
+  sheet-simulated : KeptSheet sheet (readInstanceBy former sheet) (readInstanceBy current sheet) → Simulated
+  unfolding markBy simulateBy
+  sheet-simulated (sheetLong n q h) = inr (rw (q, markBy) (long-goal sheet timetable n h))
+  sheet-simulated (sheetLarge n q h) = inr (rw (q, markBy) (large-goal sheet timetable n h))
+  sheet-simulated (sheetSame q) = go (readInstanceBy former sheet) refl
+    where
+      go : (x : InstanceRead) → readInstanceBy former sheet ≡ x → Simulated
+      go (refused w k) e = inl (rw (e, sym q ∙ e, simulateBy))
+      go (accepted I) e = paper-simulated I e (sym q ∙ e) (paper-kept timetable I)
+
+pub keptSimulations : KeptSimulations
+keptSimulations sheet timetable made steps = sheet-simulated sheet timetable made steps (sheet-kept sheet)

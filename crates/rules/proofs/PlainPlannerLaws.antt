@@ -13,7 +13,7 @@ use Rattle.rules.specs.Validity.{ClaimTrue, Apart, AllOnTime, WithinLimi
 use Rattle.rules.specs.Scheduling.{plain, Planner, heft, complete, outcome}
 use Rattle.rules.specs.Text.{tooLong, malformed, outOfRange, undue}
 use Rattle.rules.specs.InstanceText.{accepted, readInstance}
-use Rattle.rules.specs.Calls.{mark, Answer, planText, written, plan}
+use Rattle.rules.specs.Calls.{mark, Answer, planText, written, planBy, plan}
 use Rattle.rules.specs.Promises.{Spellable, Ample}
 use Rattle.rules.specs.CallsExact.{Planned, byText, by21, by31, by0 as succeeded}
 use Rattle.rules.specs.PlainPlanners.{HeftTrials, PlainExact, NeverStuck, MarkedBack, PlanMarked, PlainParent, AmpleReadBack}
@@ -150,8 +150,8 @@ planMarked R sheet buffer n = marked R sheet buffer (succeeds R sheet buffer n)
 -- ---- ample memory
 
 pub plainParent : PlainParent
-unfolding plan
-plainParent R sheet buffer I e ample = rw (e, outcome-same I (sheetExact sheet I .0 e .0) ample R, plan)
+unfolding planBy
+plainParent R sheet buffer I e ample = rw (e, outcome-same I (sheetExact sheet I .0 e .0) ample R, planBy)
 
 pub ampleReadBack : AmpleReadBack
 ampleReadBack R sheet buffer I e ample n =

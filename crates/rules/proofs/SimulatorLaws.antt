@@ -16,7 +16,7 @@ use Rattle.rules.specs.InstanceText.{InstanceRead, refused, accepted, re
 use Rattle.rules.specs.ScheduleText.{ScheduleRead, refused as refusedTimetable, read, readSchedule}
 use Rattle.rules.specs.Calls.{mark}
 use Rattle.rules.specs.Promises.{WellFormed, Spellable, First}
-use Rattle.rules.specs.Simulation.{isTurn, faultAt, firstFaulty, stepCount, stateAfter, refusedBy, stepsLeft, stopped, ended, leftOf, Simulation, progressOf, watch, refusedText, simulate}
+use Rattle.rules.specs.Simulation.{isTurn, faultAt, firstFaulty, stepCount, stateAfter, refusedBy, stepsLeft, stopped, ended, leftOf, Simulation, progressOf, watch, refusedText, simulateBy, simulate}
 use Rattle.rules.specs.SimulationPromises.{isFault, isOfText, Agrees, SimulatorAgrees, GoesOn, StaysLaw, NextTick, CappedLaw, LeftLaw, PastLaw, TextLaw, SimulatorLaw}
 use Rattle.rules.proofs.Tests.{split, clash, is-false, and-true, by-or}
 use Rattle.rules.proofs.WhereLaws.{count-yes, count-mono, count-least}
@@ -52,18 +52,18 @@ texts sheet timetable = go (readInstance sheet) refl
 module _ (sheet timetable : List ℕ) where
   module _ (w : Fault) (k : ℕ) (e : readInstance sheet ≡ refused w k) where
     pub simulate-sheet : (made steps : ℕ) → simulate sheet timetable made steps ≡ refusedText (faultNumber inSheet w) k
-    unfolding simulate
-    simulate-sheet made steps = rw (e, simulate)
+    unfolding simulateBy
+    simulate-sheet made steps = rw (e, simulateBy)
 
   module _ (I : Instance) (w : Fault) (k : ℕ) (e : readInstance sheet ≡ accepted I) (f : readSchedule I timetable ≡ refusedTimetable w k) where
     pub simulate-timetable : (made steps : ℕ) → simulate sheet timetable made steps ≡ refusedText (faultNumber inTimetable w) k
-    unfolding simulate
-    simulate-timetable made steps = rw (e, f, simulate)
+    unfolding simulateBy
+    simulate-timetable made steps = rw (e, f, simulateBy)
 
   module _ (I : Instance) (P : Schedule) (c : Claim) (e : readInstance sheet ≡ accepted I) (f : readSchedule I timetable ≡ read P c) where
     pub simulate-read : (made steps : ℕ) → simulate sheet timetable made steps ≡ watch I P (made + min steps maxSteps)
-    unfolding simulate
-    simulate-read made steps = rw (e, f, simulate)
+    unfolding simulateBy
+    simulate-read made steps = rw (e, f, simulateBy)
 
     pub sheet-formed : WellFormed I
     sheet-formed = sheetExact sheet I .0 e .0

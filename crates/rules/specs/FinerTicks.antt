@@ -1,5 +1,5 @@
--- Order 5, finer ticks: the number that digits are read as; the marks that stayed as they were by the widths before it, and those that changed; and that
--- the numbers of a planner's timetable are in their ranges.
+-- Order 5, finer ticks: the number that digits are read as; the answers that stayed as they were by the widths before it, and those that changed; and
+-- that the numbers of a planner's timetable are in their ranges.
 use Prim.Native.Nat.{ℕ, suc, _+_, _*_, _≤_, _<_}
 use mathlib.Core.Bool.{true}
 use mathlib.Core.Path.{_≡_}
@@ -12,9 +12,10 @@ use Rattle.rules.specs.Model.{Colour, Task, timeOn, Instance, taskCount,
 use Rattle.rules.specs.Validity.{Claim, Verdict, acceptedWith, refusedBy, makespan, trueClaim}
 use Rattle.rules.specs.Scheduling.{Planner, complete, outcome}
 use Rattle.rules.specs.Text.{Line, ended, unended, linesOf, digitsOf, numeral, valueFrom, decimal, scan, right}
-use Rattle.rules.specs.InstanceText.{boardForm, taskForm, fileForm, taskLine, fileLine, instanceLine, accepted, readInstanceBy, readInstance}
-use Rattle.rules.specs.ScheduleText.{runForm, moveForm, claimForm, read, readScheduleBy, readSchedule}
-use Rattle.rules.specs.Calls.{markBy, mark, planText}
+use Rattle.rules.specs.InstanceText.{boardForm, taskForm, fileForm, taskLine, fileLine, instanceLine}
+use Rattle.rules.specs.ScheduleText.{runForm, moveForm, claimForm}
+use Rattle.rules.specs.Calls.{markBy, mark, Answer, planText, planBy, plan}
+use Rattle.rules.specs.Simulation.{Simulation, simulateBy, simulate}
 use Rattle.rules.specs.Promises.{WellFormed, Spellable}
 
 -- ---- the number reader
@@ -75,16 +76,25 @@ ChangedMarks =
 abbrev pub KeptAccepted : Type 0
 KeptAccepted = (sheet timetable : List ℕ) (claim : Claim) → markBy former sheet timetable ≡ acceptedWith claim → mark sheet timetable ≡ acceptedWith claim
 
--- a board sheet accepted then is accepted now, and read as the same job: so a planner, which goes by the job, answers what it answered.
--- Not: a time read as another number. Alone it is met where the former widths accept no sheet; KeptMarks and MarkerExact rule that out
-abbrev pub KeptSheets : Type 0
-KeptSheets = (sheet : List ℕ) (I : Instance) → readInstanceBy former sheet ≡ accepted I → readInstance sheet ≡ accepted I
+-- the same of a planner's answer a: it is the one that the former widths give, or that one refuses the sheet for a number too long or too large
+abbrev pub KeptPlan : Planner → List ℕ → List ℕ → Answer → Type 0
+KeptPlan R sheet buffer a =
+    let b = planBy former R sheet buffer in
+    (a ≡ b) ⊎ RefusedForWidth sheet [] (refusedBy (b .number) (b .place))
 
--- and so is a timetable that was read then: so the simulator answers what it answered.
--- Not: a start read as another number. Alone it is met where the former widths read no timetable; KeptMarks and MarkerExact rule that out
-abbrev pub KeptTimetables : Type 0
-KeptTimetables =
-    (I : Instance) (timetable : List ℕ) (P : Schedule) (c : Claim) → readScheduleBy former I timetable ≡ read P c → readSchedule I timetable ≡ read P c
+-- Not: a time read as another number; another plan for an old sheet. Alone it is met by the former planner; PlannerExact rules that out
+abbrev pub KeptPlans : Type 0
+KeptPlans = (R : Planner) (sheet buffer : List ℕ) → KeptPlan R sheet buffer (plan R sheet buffer)
+
+-- and of the simulator's: it is the one that the former widths give, or the marker by them refuses a line for a number too long or too large
+abbrev pub KeptSimulation : List ℕ → List ℕ → ℕ → ℕ → Simulation → Type 0
+KeptSimulation sheet timetable made steps a =
+    (a ≡ simulateBy former sheet timetable made steps) ⊎ RefusedForWidth sheet timetable (markBy former sheet timetable)
+
+-- Not: a start read as another number; another state for an old timetable. Alone it is met by the former simulator; SimulatorLaw rules that out
+abbrev pub KeptSimulations : Type 0
+KeptSimulations =
+    (sheet timetable : List ℕ) (made steps : ℕ) → KeptSimulation sheet timetable made steps (simulate sheet timetable made steps)
 
 -- ---- a planner's numbers
 

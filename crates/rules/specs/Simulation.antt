@@ -5,13 +5,13 @@ use mathlib.Core.List.{List}
 use lib.ListN.{length, getD, replicate}
 use lib.Dec.{leb, ltb, eqb}
 use Rattle.rules.specs.Count.{anyBelow, firstBelow, listBelow, listWhere}
-use Rattle.rules.specs.Limits.{maxFiles, allProcessors, maxSteps}
+use Rattle.rules.specs.Limits.{maxFiles, allProcessors, maxSteps, Widths, current}
 use Rattle.rules.specs.Model.{blue, red, Instance, taskCount, fileAt, fileCount, Schedule, runAt, startAt, finishAt, moveAt, moved, madeAt, moveEnd}
 use Rattle.rules.specs.Residency.{Hold, never, during, since, holdOf, isHeld, horizon}
 use Rattle.rules.specs.Validity.{overlap, over, makespan}
 use Rattle.rules.specs.Text.{inSheet, inTimetable, faultNumber}
-use Rattle.rules.specs.InstanceText.{refused, accepted, readInstance}
-use Rattle.rules.specs.ScheduleText.{ScheduleRead, refused as refusedTimetable, read, readSchedule}
+use Rattle.rules.specs.InstanceText.{refused, accepted, readInstanceBy}
+use Rattle.rules.specs.ScheduleText.{ScheduleRead, refused as refusedTimetable, read, readScheduleBy}
 
 -- ---- the state
 
@@ -203,13 +203,19 @@ abbrev pub simulateRead : Instance → ScheduleRead → ℕ → ℕ → Simulati
 simulateRead I (refusedTimetable w k) made steps = refusedText (faultNumber inTimetable w) k
 simulateRead I (read P c) made steps = watch I P (made + min steps maxSteps)
 
+abbrev pub simulateOnBy : Widths → Instance → List ℕ → ℕ → ℕ → Simulation
+simulateOnBy L I timetable made steps = simulateRead I (readScheduleBy L I timetable) made steps
+
 abbrev pub simulateOn : Instance → List ℕ → ℕ → ℕ → Simulation
-simulateOn I timetable made steps = simulateRead I (readSchedule I timetable) made steps
+simulateOn = simulateOnBy current
 
 -- the simulator: on a board sheet and a timetable, so many steps from the steps already made
-unfoldable pub simulate : List ℕ → List ℕ → ℕ → ℕ → Simulation
-simulate sheet timetable made steps =
-    elim (readInstance sheet) [
+unfoldable pub simulateBy : Widths → List ℕ → List ℕ → ℕ → ℕ → Simulation
+simulateBy L sheet timetable made steps =
+    elim (readInstanceBy L sheet) [
       | refused w k ↦ refusedText (faultNumber inSheet w) k
-      | accepted I ↦ simulateOn I timetable made steps
+      | accepted I ↦ simulateOnBy L I timetable made steps
     ]
+
+abbrev pub simulate : List ℕ → List ℕ → ℕ → ℕ → Simulation
+simulate = simulateBy current

@@ -12,7 +12,7 @@ use Rattle.rules.specs.Text.{ascii, linesOf, digitsOf, decimalBy, decima
 use Rattle.rules.specs.InstanceText.{instanceLineBy, readRestBy, readLinesBy, readInstanceBy}
 use Rattle.rules.specs.ScheduleText.{scheduleLineBy, readEndBy, readClaimBy, readMovesBy, readRunsBy, readScheduleBy}
 use Rattle.rules.specs.Validity.{overlap, over, makespan}
-use Rattle.rules.specs.Simulation.{Progress, refusedBy, stepsLeft, stopped, ended, numberOf, placeOf, leftOf, spanOf, runningOn, heldIn, stateAt, isTurn, sharesAt, earlyAt, faultAt, closing, firstFaulty, stepTicks, stepCount, progressOf, watch, simulate}
+use Rattle.rules.specs.Simulation.{Progress, refusedBy, stepsLeft, stopped, ended, numberOf, placeOf, leftOf, spanOf, runningOn, heldIn, stateAt, isTurn, sharesAt, earlyAt, faultAt, closing, firstFaulty, stepTicks, stepCount, progressOf, watch, simulateBy, simulate}
 use Rattle.rules.specs.Examples.{sheet, sheetA, textA}
 
 -- a call with its texts, the steps made and those to make; how it ends, the steps made in all, the time, what the first processors run and
@@ -45,7 +45,7 @@ unfolding isFilled sameProgress
     linesOf digitsOf decimalBy decimal scanBy fill
     instanceLineBy readRestBy readLinesBy readInstanceBy
     scheduleLineBy readEndBy readClaimBy readMovesBy readRunsBy readScheduleBy
-    runningOn heldIn stateAt isTurn sharesAt earlyAt faultAt closing firstFaulty stepTicks stepCount progressOf watch simulate
+    runningOn heldIn stateAt isTurn sharesAt earlyAt faultAt closing firstFaulty stepTicks stepCount progressOf watch simulateBy
 holds r =
     let a = simulate (r .sheet) (r .timetable) (r .made) (r .steps) in
     let s = a .state in
