@@ -17,11 +17,11 @@ use Rattle.rules.specs.Text.{Fault, malformed, outOfRange, Line, unended
 use Rattle.rules.specs.InstanceText.{boardForm, taskForm, fileForm, instanceLineBy, instanceLine, withBoard, withLine, InstanceRead, refused, accepted}
 use Rattle.rules.specs.InstanceText.{readRestBy, readLinesBy, readInstanceBy}
 use Rattle.rules.specs.ScheduleText.{runForm, moveForm, claimForm, ScheduleLine, scheduleLineBy, scheduleLine, runOf, moveOf, claimOf}
-use Rattle.rules.specs.ScheduleText.{ScheduleRead, refused as refusedTimetable, read, readEndBy, readClaimBy, withMove, readMovesBy, withRun, readRunsBy, readScheduleBy}
+use Rattle.rules.specs.ScheduleText.{ScheduleRead, refused as refusedTimetable, readEndBy, readClaimBy, withMove, readMovesBy, withRun, readRunsBy, readScheduleBy}
 use Rattle.rules.specs.Scheduling.{Planner}
 use Rattle.rules.specs.Calls.{markBy, planBy}
 use Rattle.rules.specs.Simulation.{simulateBy}
-use Rattle.rules.specs.FinerTicks.{lineBehind, RefusedForWidth, longInSheet, largeRunTime, largeMoveTime, longInTimetable, KeptMark, KeptMarks, KeptAccepted, KeptPlan, KeptPlans, KeptSimulation, KeptSimulations}
+use Rattle.rules.specs.FinerTicks.{lineBehind, RefusedForWidth, longInSheet, largeRunTime, largeMoveTime, longInTimetable, KeptMarks, KeptAccepted, KeptPlan, KeptPlans, KeptSimulations}
 use Rattle.rules.proofs.Tests.{split}
 use Rattle.rules.proofs.ReadingLaws.{by-reading}
 use Rattle.rules.proofs.KeptLineLaws.{isLong, isLarge, isSame, due-kept, LongIn, LargeTime, ofRun, ofMove, sheet-line, paper-line}
@@ -165,37 +165,51 @@ module _ (bs : List ℕ) (I : Instance) where
       (λ s. rw (s, readScheduleBy) (runs-kept (taskCount I) (linesOf bs) (record { runs = []; moves = [] }) 0 refl))
       (λ s. rw (s, readScheduleBy) (paperSame refl))
 
--- ---- the marks
+-- ---- both texts
 
 module _ (sheet timetable : List ℕ) where
-  abbrev Goal : Type 0
-  Goal = KeptMark sheet timetable (markBy current sheet timetable)
+  -- the former mark refuses a line for the width of a number, or both texts are read as they are now
+  data KeptTexts : Type 0 where
+    forWidth : RefusedForWidth sheet timetable (markBy former sheet timetable) → KeptTexts
+    bothRefuse : (w : Fault) (k : ℕ) → readInstanceBy former sheet ≡ refused w k → readInstanceBy current sheet ≡ refused w k → KeptTexts
+    bothAccept : (I : Instance) → readInstanceBy former sheet ≡ accepted I → readInstanceBy current sheet ≡ accepted I
+        → readScheduleBy former I timetable ≡ readScheduleBy current I timetable → KeptTexts
 
-  long-goal : (n : ℕ) → LongOnSheet (lineBehind sheet n) → RefusedForWidth sheet timetable (refusedBy 2 (suc n))
-  long-goal n (form, o, x) = longInSheet n form o x
+  long-sheet : (n : ℕ) → LongOnSheet (lineBehind sheet n) → RefusedForWidth sheet timetable (refusedBy 2 (suc n))
+  long-sheet n (form, o, x) = longInSheet n form o x
 
-  large-goal : (n : ℕ) → LargeTime (lineBehind sheet n) → RefusedForWidth sheet timetable (refusedBy 3 (suc n))
-  large-goal n (ofRun i a c e h) = largeRunTime n i a c e h
-  large-goal n (ofMove i j f c e h) = largeMoveTime n i j f c e h
+  large-sheet : (n : ℕ) → LargeTime (lineBehind sheet n) → RefusedForWidth sheet timetable (refusedBy 3 (suc n))
+  large-sheet n (ofRun i a c e h) = largeRunTime n i a c e h
+  large-sheet n (ofMove i j f c e h) = largeMoveTime n i j f c e h
 
-  paper-goal : (I : Instance) → readInstanceBy former sheet ≡ accepted I → readInstanceBy current sheet ≡ accepted I
-      → KeptPaper timetable (readScheduleBy former I timetable) (readScheduleBy current I timetable) → Goal
+  paper-texts : (I : Instance) → readInstanceBy former sheet ≡ accepted I → readInstanceBy current sheet ≡ accepted I
+      → KeptPaper timetable (readScheduleBy former I timetable) (readScheduleBy current I timetable) → KeptTexts
   unfolding markBy
-  paper-goal I a b (paperLong n q (form, o, x)) = inr (rw (a, q, markBy) (longInTimetable n form o x))
-  paper-goal I a b (paperSame q) = inl (rw (a, b, q, markBy))
+  paper-texts I a b (paperLong n q (form, o, x)) = forWidth (rw (a, q, markBy) (longInTimetable n form o x))
+  paper-texts I a b (paperSame q) = bothAccept I a b q
 
-  sheet-goal : KeptSheet sheet (readInstanceBy former sheet) (readInstanceBy current sheet) → Goal
+  sheet-texts : KeptSheet sheet (readInstanceBy former sheet) (readInstanceBy current sheet) → KeptTexts
   unfolding markBy
-  sheet-goal (sheetLong n q h) = inr (rw (q, markBy) (long-goal n h))
-  sheet-goal (sheetLarge n q h) = inr (rw (q, markBy) (large-goal n h))
-  sheet-goal (sheetSame q) = go (readInstanceBy former sheet) refl
+  sheet-texts (sheetLong n q h) = forWidth (rw (q, markBy) (long-sheet n h))
+  sheet-texts (sheetLarge n q h) = forWidth (rw (q, markBy) (large-sheet n h))
+  sheet-texts (sheetSame q) = go (readInstanceBy former sheet) refl
     where
-      go : (x : InstanceRead) → readInstanceBy former sheet ≡ x → Goal
-      go (refused w k) e = inl (rw (e, sym q ∙ e, markBy))
-      go (accepted I) e = paper-goal I e (sym q ∙ e) (paper-kept timetable I)
+      go : (x : InstanceRead) → readInstanceBy former sheet ≡ x → KeptTexts
+      go (refused w k) e = bothRefuse w k e (sym q ∙ e)
+      go (accepted I) e = paper-texts I e (sym q ∙ e) (paper-kept timetable I)
+
+  kept-texts : KeptTexts
+  kept-texts = sheet-texts (sheet-kept sheet)
+
+-- ---- the marks
 
 pub keptMarks : KeptMarks
-keptMarks sheet timetable = sheet-goal sheet timetable (sheet-kept sheet)
+unfolding markBy
+keptMarks sheet timetable = elim (kept-texts sheet timetable) [
+  | forWidth o ↦ inr o
+  | bothRefuse w k a b ↦ inl (rw (a, b, markBy))
+  | bothAccept I a b q ↦ inl (rw (a, b, q, markBy))
+]
 
 -- ---- acceptance
 
@@ -214,34 +228,19 @@ keptAccepted sheet timetable claim e = elim (keptMarks sheet timetable) [
 -- ---- the planners and the simulator
 
 module _ (R : Planner) (sheet buffer : List ℕ) where
-  plan-goal : KeptSheet sheet (readInstanceBy former sheet) (readInstanceBy current sheet) → KeptPlan R sheet buffer (planBy current R sheet buffer)
+  plan-kept : KeptSheet sheet (readInstanceBy former sheet) (readInstanceBy current sheet) → KeptPlan R sheet buffer (planBy current R sheet buffer)
   unfolding planBy
-  plan-goal (sheetLong n q h) = inr (rw (q, planBy) (long-goal sheet [] n h))
-  plan-goal (sheetLarge n q h) = inr (rw (q, planBy) (large-goal sheet [] n h))
-  plan-goal (sheetSame q) = inl (rw (q, planBy))
+  plan-kept (sheetLong n q h) = inr (rw (q, planBy) (long-sheet sheet [] n h))
+  plan-kept (sheetLarge n q h) = inr (rw (q, planBy) (large-sheet sheet [] n h))
+  plan-kept (sheetSame q) = inl (rw (q, planBy))
 
 pub keptPlans : KeptPlans
-keptPlans R sheet buffer = plan-goal R sheet buffer (sheet-kept sheet)
-
-module _ (sheet timetable : List ℕ) (made steps : ℕ) where
-  abbrev Simulated : Type 0
-  Simulated = KeptSimulation sheet timetable made steps (simulateBy current sheet timetable made steps)
-
-  paper-simulated : (I : Instance) → readInstanceBy former sheet ≡ accepted I → readInstanceBy current sheet ≡ accepted I
-      → KeptPaper timetable (readScheduleBy former I timetable) (readScheduleBy current I timetable) → Simulated
-  unfolding markBy simulateBy
-  paper-simulated I a b (paperLong n q (form, o, x)) = inr (rw (a, q, markBy) (longInTimetable n form o x))
-  paper-simulated I a b (paperSame q) = inl (rw (a, b, q, simulateBy))
-
-  sheet-simulated : KeptSheet sheet (readInstanceBy former sheet) (readInstanceBy current sheet) → Simulated
-  unfolding markBy simulateBy
-  sheet-simulated (sheetLong n q h) = inr (rw (q, markBy) (long-goal sheet timetable n h))
-  sheet-simulated (sheetLarge n q h) = inr (rw (q, markBy) (large-goal sheet timetable n h))
-  sheet-simulated (sheetSame q) = go (readInstanceBy former sheet) refl
-    where
-      go : (x : InstanceRead) → readInstanceBy former sheet ≡ x → Simulated
-      go (refused w k) e = inl (rw (e, sym q ∙ e, simulateBy))
-      go (accepted I) e = paper-simulated I e (sym q ∙ e) (paper-kept timetable I)
+keptPlans R sheet buffer = plan-kept R sheet buffer (sheet-kept sheet)
 
 pub keptSimulations : KeptSimulations
-keptSimulations sheet timetable made steps = sheet-simulated sheet timetable made steps (sheet-kept sheet)
+unfolding simulateBy
+keptSimulations sheet timetable made steps = elim (kept-texts sheet timetable) [
+  | forWidth o ↦ inr o
+  | bothRefuse w k a b ↦ inl (rw (a, b, simulateBy))
+  | bothAccept I a b q ↦ inl (rw (a, b, q, simulateBy))
+]

@@ -58,7 +58,7 @@ pub data LargeTime (l : Line) : Type 0 where
   ofRun : (i : ℕ) (a : Task) (c : Colour) → instanceLine l ≡ right (taskLine i a) → former .runTimes .most < timeOn c a → LargeTime l
   ofMove : (i j f c : ℕ) → instanceLine l ≡ right (fileLine i j f c) → former .moveTimes .most < c → LargeTime l
 
-abbrev pub SheetLine : Line → Type 0
+abbrev SheetLine : Line → Type 0
 SheetLine l = Kept (LongIn boardForm taskForm fileForm l) (LargeTime l) (instanceLineBy former l) (instanceLine l)
 
 module _ (l : List ℕ) (b : scan boardForm l ≡ none) where
@@ -133,7 +133,7 @@ tick-kept n h =
     in-tested (former .ticks) n (record { least = omega arith; most = omega arith })
     ∙ sym (in-tested ticks n (record { least = omega arith; most = omega arith }))
 
-abbrev pub PaperLine : Instance → Line → Type 0
+abbrev PaperLine : Instance → Line → Type 0
 PaperLine I l = Kept (LongIn runForm moveForm claimForm l) ⊥ (scheduleLineBy former I l) (scheduleLine I l)
 
 module _ (l : List ℕ) where

@@ -41,7 +41,7 @@ numerals-or d (v ∷ vs) = by-order v (10 ^ d)
 -- ---- one form
 
 -- a line read by the former widths is read now, with the same numbers
-pub reads-on : (form l vs : List ℕ) → good form ≡ true → scanBy formerDigits form l ≡ some vs → scan form l ≡ some vs
+reads-on : (form l vs : List ℕ) → good form ≡ true → scanBy formerDigits form l ≡ some vs → scan form l ≡ some vs
 reads-on form l vs g e =
     let f = scan-only formerDigits (omega arith) form l vs e in
     rw (f .line) (scan-fill maxDigits (omega arith) form vs g (f .count) (numerals-wider vs (f .numerals)))
@@ -84,7 +84,7 @@ module _ (form l : List ℕ) (g : good form ≡ true) where
 
 -- ---- three forms, of which a line has at most one
 
-abbrev pub Others : List ℕ → List ℕ → Type 0
+abbrev Others : List ℕ → List ℕ → Type 0
 Others form other = (vs : List ℕ) → scanBy formerDigits other (fill form vs) ≡ none
 
 -- what the former widths read of a line by three forms: what is read now; or nothing, and one of them has a number too long

@@ -1,4 +1,5 @@
-// Numerals: decimal digits, at most `MAX_DIGITS` of them when read, with no leading zero.
+// Numerals: decimal digits, at most `MAX_DIGITS` of them when read, with no leading zero. What is read is the number whose decimal digits
+// they are (`NumberLaw` of crate rules).
 ghost use mathlib.Core.Path.{_≡_};
 ghost use Prim.Native.Nat.{_-_, _≤_};
 ghost use lib.ListN.{length};

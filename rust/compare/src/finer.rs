@@ -69,7 +69,8 @@ impl Counts {
             match (coarse.answer.number, mark[0]) {
                 (0, 0) => self.accepted += 1,
                 (0, 17) => self.over += 1,
-                _ => self.stuck += 1,
+                (21, _) => self.stuck += 1,
+                other => return Err(format!("answered and marked by {other:?}")),
             }
         }
         Ok(())

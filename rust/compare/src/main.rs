@@ -1,8 +1,8 @@
 //! Compares the proved library with an implementation of its own of document 01 with Orders 1 to 5, on sound and damaged texts from
 //! a fixed seed, and short timetables also with what the memories hold at each tick. All that is marked is simulated too. Prints how often
 //! each answer was reached, what was answered to timetables with relays, how often each of the four cases of maker and reader was met,
-//! what the simulator answered, what the plain planners did beside the memory-aware ones, and which marks are others than by the limits
-//! before Order 5. Ends with an error at the first difference, where an answer or a case was never reached, or where relays were marked as
+//! what the simulator answered, what the plain planners did beside the memory-aware ones, which marks are others than by the limits
+//! before Order 5, and how often the same job was planned in finer ticks. Ends with an error at the first difference, where an answer or a case was never reached, or where relays were marked as
 //! the rules do not allow.
 
 use compare::generate::{self, Random};
@@ -121,8 +121,7 @@ impl Tally {
                 plain_mark,
                 aware_mark,
             };
-            let found = self.plain.planned(sheet, &pair, &mut self.widths.written);
-            same(found, sheet, plain.text());
+            same(self.plain.planned(sheet, &pair), sheet, plain.text());
             let written = [aware, plain].into_iter().find(|a| a.answer.number == 0);
             paper = written.map(|a| a.text().to_vec()).or(paper);
         }
@@ -145,30 +144,29 @@ const PAPER: &[u8] =
     b"(run 1 2 0)\n(run 2 1 3)\n(run 3 1 6)\n(move 1 2 2)\n(move 1 3 4)\n(claim 8 5 5)\n";
 
 fn edges(t: &mut Tally) {
-    let (course, paper) = (COURSE, PAPER);
     for n in [MAX_TEXT - 1, MAX_TEXT, MAX_TEXT + 1, 70_000] {
         for byte in [b'\n', b'(', 0u8] {
             let long = vec![byte; n];
-            t.mark(&long, paper);
-            t.mark(course, &long);
+            t.mark(&long, PAPER);
+            t.mark(COURSE, &long);
             for planner in PLANNERS {
                 let want = reference::plan(planner, &long);
                 t.plan(planner, &long, &want, 100);
             }
-            let mut behind = course.to_vec();
+            let mut behind = COURSE.to_vec();
             behind.resize(n, byte);
-            t.mark(&behind, paper);
+            t.mark(&behind, PAPER);
         }
     }
     for planner in PLANNERS {
-        let want = reference::plan(planner, course);
+        let want = reference::plan(planner, COURSE);
         for room in 0..120 {
-            t.plan(planner, course, &want, room);
+            t.plan(planner, COURSE, &want, room);
         }
     }
     t.mark(b"", b"");
-    t.mark(course, b"");
-    t.mark(course, paper);
+    t.mark(COURSE, b"");
+    t.mark(COURSE, PAPER);
 }
 
 /// A sound sheet; two in five have relays.

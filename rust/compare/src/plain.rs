@@ -6,7 +6,6 @@ use crate::generate::{sizes, write_sheet, Random};
 use crate::library::{self, compared, Answered};
 use crate::plans::plans;
 use crate::reference::{self, read_sheet, Heuristic, Memory, Planned, Planner, Sheet, MAX_LIMIT};
-use crate::widths::Written;
 use std::collections::BTreeMap;
 use std::fmt;
 use Heuristic::{Heft, MinMin};
@@ -250,21 +249,12 @@ impl Pair<'_> {
         Ok((rooms.len() * memories.len()) as u64)
     }
 
-    /// The memory-aware planner with other limits; its plan is added to what was written.
-    fn aware_with(
-        &self,
-        sheet: &Sheet,
-        limits: [i64; 2],
-        written: &mut Written,
-    ) -> Result<Answered, String> {
+    /// The memory-aware planner with other limits.
+    fn aware_with(&self, sheet: &Sheet, limits: [i64; 2]) -> Result<Answered, String> {
         let text = with_limits(sheet, limits);
         let planner = self.heuristic.with(Aware);
         let want = reference::plan(planner, &text);
-        let got = compared(planner, &text, &want, want.text.len())?;
-        if got.answer.number == 0 {
-            written.add(sheet, got.text())?;
-        }
-        Ok(got)
+        compared(planner, &text, &want, want.text.len())
     }
 
     /// The library's marker on the plain plan with other limits; its number.
@@ -290,14 +280,8 @@ fn with_limits(sheet: &Sheet, limits: [i64; 2]) -> Vec<u8> {
 }
 
 impl Counts {
-    /// A sheet and the answers to it; an error where a promise is not kept. Of a refused sheet none is made. Plans on the same sheet with
-    /// other limits are added to what was written.
-    pub fn planned(
-        &mut self,
-        sheet: &[u8],
-        pair: &Pair,
-        written: &mut Written,
-    ) -> Result<(), String> {
+    /// A sheet and the answers to it; an error where a promise is not kept. Of a refused sheet none is made.
+    pub fn planned(&mut self, sheet: &[u8], pair: &Pair) -> Result<(), String> {
         let Ok(sheet) = read_sheet(sheet) else {
             return Ok(());
         };
@@ -308,8 +292,8 @@ impl Counts {
         row.over += u64::from(pair.plain_mark[0] == 17);
         row.by_relay += u64::from(Lines::read(pair.plain.text()).by_relay(&sheet));
         row.own.count(pair.plain, pair.aware);
-        row.other_limits(&mut self.draws, &sheet, pair, written)?;
-        row.peaks_as_limits(&sheet, pair, written)
+        row.other_limits(&mut self.draws, &sheet, pair)?;
+        row.peaks_as_limits(&sheet, pair)
     }
 
     /// Holds the library and reference.rs against the known plans.
@@ -365,13 +349,7 @@ impl Counts {
 }
 
 impl Row {
-    fn other_limits(
-        &mut self,
-        r: &mut Random,
-        sheet: &Sheet,
-        pair: &Pair,
-        written: &mut Written,
-    ) -> Result<(), String> {
+    fn other_limits(&mut self, r: &mut Random, sheet: &Sheet, pair: &Pair) -> Result<(), String> {
         let total = sizes(sheet);
         let above = |r: &mut Random| match r.below(4) {
             0 => MAX_LIMIT,
@@ -384,22 +362,17 @@ impl Row {
         if total > 0 {
             let mut limits = [total; 2];
             limits[r.below(2)] -= 1;
-            let aware = pair.aware_with(sheet, limits, written)?;
+            let aware = pair.aware_with(sheet, limits)?;
             self.less.count(pair.plain, &aware);
         }
         Ok(())
     }
 
     /// The plain plan's peaks as limits, and one block less in a memory.
-    fn peaks_as_limits(
-        &mut self,
-        sheet: &Sheet,
-        pair: &Pair,
-        written: &mut Written,
-    ) -> Result<(), String> {
+    fn peaks_as_limits(&mut self, sheet: &Sheet, pair: &Pair) -> Result<(), String> {
         let [_, blue, red] = Lines::read(pair.plain.text()).claim;
         pair.marked_with(sheet, [blue, red])?;
-        let aware = pair.aware_with(sheet, [blue, red], written)?;
+        let aware = pair.aware_with(sheet, [blue, red])?;
         self.at_peaks.count(pair.plain, &aware);
         for limits in [[blue - 1, red], [blue, red - 1]] {
             if !limits.contains(&-1) {

@@ -70,7 +70,7 @@ pub enum Colour {
 /// How often something was met, by the colours of maker and reader.
 pub type ByCase = [[u64; 2]; 2];
 
-#[derive(Clone, Debug, PartialEq, Eq)]
+#[derive(Clone, Debug)]
 pub struct File {
     pub maker: usize,
     pub reader: usize,
@@ -78,7 +78,7 @@ pub struct File {
     pub time: i64,
 }
 
-#[derive(Clone, Debug, PartialEq, Eq)]
+#[derive(Clone, Debug)]
 pub struct Sheet {
     pub processors: [i64; 2],
     pub limits: [i64; 2],

@@ -58,9 +58,15 @@ fn too_long(line: &[u8], forms: [&str; 3]) -> bool {
     let Some((_, numerals)) = form(line, forms) else {
         return false;
     };
+    let longest = longest_numeral(&numerals);
+    longest.is_some_and(|n| FORMER.digits < n && n <= CURRENT.digits)
+}
+
+/// The digits of the longest numeral, if none has a leading zero.
+fn longest_numeral(numerals: &[&[u8]]) -> Option<usize> {
     let zero = numerals.iter().any(|n| n.len() > 1 && n[0] == b'0');
-    let longest = numerals.iter().map(|n| n.len()).max().unwrap_or(0);
-    !zero && (FORMER.digits + 1..=CURRENT.digits).contains(&longest)
+    let longest = numerals.iter().map(|n| n.len()).max();
+    longest.filter(|_| !zero)
 }
 
 /// The value of a numeral; one that is too long for the type is greater than each limit.
@@ -154,7 +160,7 @@ fn line_numbers(line: &[u8]) -> Vec<i64> {
 
 /// What the planners wrote.
 #[derive(Default)]
-pub struct Written {
+struct Written {
     plans: u64,
     greatest: i64,
     longest: usize,
@@ -165,7 +171,7 @@ pub struct Written {
 impl Written {
     /// A plan; an error where a start, a move or a number of the claim is out of its range, or the span over the sum, for each task, of
     /// its longest run and of the longest move of a file that it reads, a relay counting one tick.
-    pub fn add(&mut self, sheet: &Sheet, text: &[u8]) -> Result<(), String> {
+    fn add(&mut self, sheet: &Sheet, text: &[u8]) -> Result<(), String> {
         let mut written = vec![];
         for line in text.split_inclusive(|b| *b == b'\n') {
             let first = if line.starts_with(b"(claim ") { 0 } else { 2 };
@@ -173,12 +179,10 @@ impl Written {
         }
         let claim = &written[written.len() - 3..];
         let (span, most) = (claim[0], longest_span(sheet));
-        let tasks = sheet.tasks.len() as i64;
-        let widest = tasks * (CURRENT.run_time + CURRENT.move_time + 1);
         let greatest = *written.iter().max().expect("a number");
-        if greatest > CURRENT.tick || span > most || most > widest {
+        if greatest > CURRENT.tick || span > most {
             return Err(format!(
-                "a plan of {tasks} tasks has the number {greatest} and the span {span}; the span can be {most}"
+                "a plan has the number {greatest} and the span {span}; the span can be {most}"
             ));
         }
         self.plans += 1;
@@ -209,7 +213,7 @@ pub struct Counts {
     /// planners' answers to sheets that the former limits accept, and to others that the present ones do
     old_sheets: u64,
     new_sheets: u64,
-    pub written: Written,
+    written: Written,
     known: u64,
 }
 
@@ -260,9 +264,7 @@ impl Edges {
 /// Whether a line is one of the forms but for a number of one digit too many, and has no longer one.
 fn one_digit_more(text: &[u8], place: u64, forms: [&str; 3]) -> bool {
     let line = ended_line(text, place).and_then(|line| form(line, forms));
-    line.is_some_and(|(_, numerals)| {
-        numerals.iter().map(|n| n.len()).max() == Some(CURRENT.digits + 1)
-    })
+    line.is_some_and(|(_, numerals)| longest_numeral(&numerals) == Some(CURRENT.digits + 1))
 }
 
 impl Counts {
@@ -282,8 +284,8 @@ impl Counts {
         Ok(())
     }
 
-    /// A planner's answer to a sheet; an error where the sheet is read otherwise than by the former limits and must not be, or where a
-    /// number of the plan is out of its range.
+    /// A planner's answer to a sheet; an error where it refuses the sheet otherwise than by the former limits and must not, or the other
+    /// way round, or where a number of the plan is out of its range.
     pub fn planned(&mut self, text: &[u8], got: &Answered) -> Result<(), String> {
         let refusal = |number, place| [number, place, 0, 0, 0];
         let (number, place) = (got.answer.number, got.answer.place);
@@ -298,9 +300,6 @@ impl Counts {
             return Ok(());
         };
         match former {
-            Ok(former) if former != sheet => {
-                return Err("the sheet is another than by the former limits".to_string())
-            }
             Ok(_) => self.old_sheets += 1,
             Err(_) => self.new_sheets += 1,
         }

@@ -1,5 +1,5 @@
-//! How long the planners, the marker and the simulator take on sheets of 8, 32 and 64 tasks, beside the independent implementation: the
-//! median of many calls, in one run on one machine.
+//! How long the planners, the marker and the simulator take on sheets of 8, 32 and 64 tasks, the last also with every time a million times
+//! as long, beside the independent implementation: the median of many calls, in one run on one machine.
 
 use compare::generate::{all_apart, all_moved, finer, large_sheet, Random};
 use compare::library::named;
@@ -103,9 +103,11 @@ fn walk(step: impl Fn(u64) -> u64) {
 /// The rows of a sheet: the planners on it, its reading, and the marker and the simulator on MemMinMin's timetable. `times` stands behind
 /// what is measured.
 fn rows(sheet: &[u8], times: &str) {
-    let read = reference::read_sheet(sheet).expect("a sound sheet");
-    let (tasks, files) = (read.tasks.len(), read.files.len());
-    let row = Row { tasks, files };
+    let sound = reference::read_sheet(sheet).expect("a sound sheet");
+    let row = Row {
+        tasks: sound.tasks.len(),
+        files: sound.files.len(),
+    };
     let mut paper = vec![];
     for (name, planner) in NAMES.iter().zip(PLANNERS) {
         paper = row.planner(&format!("{name}{times}"), planner, sheet);
