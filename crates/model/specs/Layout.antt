@@ -5,7 +5,7 @@ use mathlib.Core.List.{List}
 use lib.Dec.{leb}
 use lib.ListN.{getD, set}
 use Rattle.rules.specs.Count.{listBelow}
-use Rattle.rules.specs.Limits.{maxTasks, maxFiles, processorCounts, allProcessors, memoryLimits, runTimes, moveTimes, fileSizes, ticks}
+use Rattle.rules.specs.Limits.{maxTasks, maxFiles, processorCounts, allProcessors, memoryLimits, runTimes, moveTimes, fileSizes, workSizes, ticks}
 use Rattle.rules.specs.Model as Rules
 use Rattle.rules.specs.Model.{Instance, Schedule, Task, File, Run}
 use Rattle.rules.specs.Scheduling.{Partial}
@@ -21,6 +21,7 @@ use Rattle.model.specs.Colours.{byColour}
 pub record Job : Type 0 where
   pub onBlue : ℕ → ℕ
   pub onRed : ℕ → ℕ
+  pub work : ℕ → ℕ
   pub maker : ℕ → ℕ
   pub reader : ℕ → ℕ
   pub size : ℕ → ℕ
@@ -30,26 +31,30 @@ pub record Job : Type 0 where
 abbrev pub onRedPlace : ℕ → ℕ
 onRedPlace i = maxTasks + i
 
+abbrev pub workPlace : ℕ → ℕ
+workPlace i = 2 * maxTasks + i
+
 abbrev pub makerPlace : ℕ → ℕ
-makerPlace k = 2 * maxTasks + k
+makerPlace k = 3 * maxTasks + k
 
 abbrev pub readerPlace : ℕ → ℕ
-readerPlace k = 2 * maxTasks + maxFiles + k
+readerPlace k = 3 * maxTasks + maxFiles + k
 
 abbrev pub sizePlace : ℕ → ℕ
-sizePlace k = 2 * maxTasks + 2 * maxFiles + k
+sizePlace k = 3 * maxTasks + 2 * maxFiles + k
 
 abbrev pub moveTimePlace : ℕ → ℕ
-moveTimePlace k = 2 * maxTasks + 3 * maxFiles + k
+moveTimePlace k = 3 * maxTasks + 3 * maxFiles + k
 
 -- the length of a job array
 abbrev pub jobLength : ℕ
-jobLength = 2 * maxTasks + 4 * maxFiles
+jobLength = 3 * maxTasks + 4 * maxFiles
 
 abbrev pub jobOf : List ℕ → Job
 jobOf xs = record {
   onBlue = λ i. getD xs i 0;
   onRed = λ i. getD xs (onRedPlace i) 0;
+  work = λ i. getD xs (workPlace i) 0;
   maker = λ k. getD xs (makerPlace k) 0;
   reader = λ k. getD xs (readerPlace k) 0;
   size = λ k. getD xs (sizePlace k) 0;
@@ -86,8 +91,8 @@ lastLength = allProcessors
 
 -- ---- the arrays with one task, file, run or move start written
 
-abbrev pub withTaskAt : List ℕ → ℕ → ℕ → ℕ → List ℕ
-withTaskAt job i onBlue onRed = set (set job i onBlue) (onRedPlace i) onRed
+abbrev pub withTaskAt : List ℕ → ℕ → ℕ → ℕ → ℕ → List ℕ
+withTaskAt job i onBlue onRed work = set (set (set job i onBlue) (onRedPlace i) onRed) (workPlace i) work
 
 abbrev pub withFileAt : List ℕ → ℕ → ℕ → ℕ → ℕ → ℕ → List ℕ
 withFileAt job k maker reader size time =
@@ -102,7 +107,7 @@ withMoveAt schedule k start = set schedule (moveStartPlace k) start
 -- ---- the rules' instance and schedule
 
 abbrev pub taskFrom : Job → ℕ → Task
-taskFrom J i = record { onBlue = J .onBlue i; onRed = J .onRed i }
+taskFrom J i = record { onBlue = J .onBlue i; onRed = J .onRed i; work = J .work i }
 
 abbrev pub fileFrom : Job → ℕ → File
 fileFrom J k = record {
@@ -174,6 +179,7 @@ pub record JobBounds (b : Shape) (J : Job) : Type 0 where
   pub redLimit : b .board .red .limit ≤ memoryLimits .most
   pub onBlue : Bounded (runTimes .most) (b .tasks) (J .onBlue)
   pub onRed : Bounded (runTimes .most) (b .tasks) (J .onRed)
+  pub work : Bounded (workSizes .most) (b .tasks) (J .work)
   pub maker : (k : ℕ) → k < b .files → J .maker k < b .tasks
   pub reader : (k : ℕ) → k < b .files → J .reader k < b .tasks
   pub size : Bounded (fileSizes .most) (b .files) (J .size)
@@ -206,9 +212,15 @@ lastStart = lastTick + moveTimes .most
 abbrev pub latestFinish : ℕ
 latestFinish = lastStart + runTimes .most
 
--- no total of file sizes is greater
+-- no total of file sizes is greater, none of working memory, and none of both
+abbrev pub mostFiles : ℕ
+mostFiles = fileSizes .most * maxFiles
+
+abbrev pub mostWork : ℕ
+mostWork = workSizes .most * maxTasks
+
 abbrev pub mostHeld : ℕ
-mostHeld = fileSizes .most * maxFiles
+mostHeld = mostFiles + mostWork
 
 -- no last finish of a processor is later
 abbrev pub LastBounds : Shape → List ℕ → Type 0

@@ -18,12 +18,15 @@ pub struct Shape {
     pub board: Board,
 }
 
-// A job array: the run times on blue and on red of each task; then of each file maker, reader, size and move time.
-pub const JOB: usize = 2 * Board::MAX_TASKS + 4 * Board::MAX_FILES;
+// A job array: the run times on blue and on red and the working memory of each task; then of each file maker, reader, size and move
+// time.
+pub const JOB: usize = 3 * Board::MAX_TASKS + 4 * Board::MAX_FILES;
 
 const ON_RED: usize = Board::MAX_TASKS;
 
-const MAKER: usize = ON_RED + Board::MAX_TASKS;
+const WORK: usize = ON_RED + Board::MAX_TASKS;
+
+const MAKER: usize = WORK + Board::MAX_TASKS;
 
 const READER: usize = MAKER + Board::MAX_FILES;
 
@@ -48,6 +51,14 @@ pub fn run_time(job: &[u64; JOB], i: usize, colour: Colour) -> u64
     ensures { λ r. ⌜ r ≤ max (jobOf (now (job .entry)) .onBlue i) (jobOf (now (job .entry)) .onRed i) ⌝ }
 {
     by_colour(colour, job[i], job[ON_RED + i])
+}
+
+// The working memory of task i, 0 if it has none.
+pub fn work(job: &[u64; JOB], i: usize) -> u64
+    requires { ⌜ i < maxTasks ⌝ }
+    ensures { λ r. ⌜ r ≡ jobOf (now (job .entry)) .work i ⌝ }
+{
+    job[WORK + i]
 }
 
 // The maker of file k as stored: nothing is known of it yet.
@@ -150,13 +161,14 @@ fn store_two(array: &mut [u64], p: usize, a: u64, q: usize, b: u64)
     array[q] = b;
 }
 
-// Writes the run times of task i.
-pub fn set_task(job: &mut [u64; JOB], i: usize, blue: u64, red: u64)
+// Writes the run times and the working memory of task i.
+pub fn set_task(job: &mut [u64; JOB], i: usize, blue: u64, red: u64, work: u64)
     requires { ⌜ i < maxTasks ⌝ }
-    ensures { λ _. ⌜ now (job .exit) ≡ withTaskAt (now (job .entry)) i blue red ⌝ }
+    ensures { λ _. ⌜ now (job .exit) ≡ withTaskAt (now (job .entry)) i blue red work ⌝ }
     ensures { λ _. ⌜ (length (now (job .entry)) ≡ jobLength) × (length (now (job .exit)) ≡ jobLength) ⌝ }
 {
     store_two(job, i, blue, ON_RED + i, red);
+    store(job, WORK + i, work);
 }
 
 // Writes the four numbers of file k.

@@ -1,10 +1,11 @@
-// When a memory holds a file, and how much it holds: document 01's hold rule with Order 1, for partial schedules too.
+// When a memory holds a file or a task's working memory, and how much it holds: document 01's hold rule with Orders 1 and 6, for
+// partial schedules too.
 ghost use mathlib.Core.Path.{_≡_};
 ghost use Prim.Native.Nat.{_<_, _≤_, max};
 ghost use Rattle.rules.specs.Model.{finishAt, releaseAt};
-ghost use Rattle.rules.specs.Residency.{covers as rules-covers, settles as rules-settles, openHold, closedHold, holdOf, held, horizon};
+ghost use Rattle.rules.specs.Residency.{covers as rules-covers, settles as rules-settles, openHold, closedHold, holdOf, workOf, filesHeld, workHeld, held, filesHorizon, workHorizon, horizon};
 ghost use Rattle.model.specs.Colours.{asColour};
-ghost use Rattle.model.specs.Layout.{instanceOf, scheduleOf, InBounds, lastTick, mostHeld};
+ghost use Rattle.model.specs.Layout.{instanceOf, scheduleOf, InBounds, lastTick, mostFiles, mostWork, mostHeld};
 ghost use Rattle.model.specs.Holds.{TimesOf, TimesWithin, asHold, Within};
 use super::choice::greater;
 use super::choice::value_if;
@@ -27,7 +28,7 @@ pub struct FileTimes {
     pub released: u64,
 }
 
-// When a memory holds a file.
+// When a memory holds a file, or a task's working memory.
 pub enum Hold {
     Never,
     During(u64, u64),
@@ -72,7 +73,7 @@ pub fn finish<'a>(
     layout::start(schedule, i) + time
 }
 
-// Until when task i's run keeps the files that it reads: its finish, but the tick after its start if it takes no time. The one
+// Until when task i's run keeps the files that it reads and its working memory: its finish, but the tick after its start if it takes no time. The one
 // place of the code that says so.
 pub fn release<'a>(
     shape: Shape,
@@ -173,6 +174,81 @@ pub fn hold_of<'a>(
     Hold::Never
 }
 
+// The hold of task i's working memory in the memory of the colour: the run's own, from its start until its release.
+pub fn work_hold<'a>(
+    shape: Shape,
+    job: &'a [u64; layout::JOB],
+    schedule: &'a [u64; layout::SCHEDULE],
+    i: usize,
+    colour: Colour,
+) -> Hold
+    requires { ⌜ InBounds shape (now job) (now schedule) ⌝ }
+    requires { ⌜ i < shape .tasks ⌝ }
+    ensures { λ r. ⌜ asHold r ≡
+        workOf (instanceOf shape (now (job .entry))) (scheduleOf shape (now (schedule .entry))) (asColour colour) i ⌝ }
+    ensures { λ r. ⌜ Within lastTick r ⌝ }
+{
+    if layout::processor(schedule, i) == 0 {
+        return Hold::Never;
+    }
+    if !same_colour(layout::colour_of(shape, schedule, i), colour) {
+        return Hold::Never;
+    }
+    if layout::work(job, i) == 0 {
+        return Hold::Never;
+    }
+    Hold::During(
+        layout::start(schedule, i),
+        release(shape, job, schedule, i),
+    )
+}
+
+// The sizes of the files held in the memory of the colour at tick t.
+fn files_at<'a>(
+    shape: Shape,
+    job: &'a [u64; layout::JOB],
+    schedule: &'a [u64; layout::SCHEDULE],
+    colour: Colour,
+    t: u64,
+) -> u64
+    requires { ⌜ InBounds shape (now job) (now schedule) ⌝ }
+    ensures { λ r. ⌜ r ≡
+        filesHeld (instanceOf shape (now (job .entry))) (scheduleOf shape (now (schedule .entry))) (asColour colour) t ⌝ }
+    ensures { λ r. ⌜ r ≤ mostFiles ⌝ }
+{
+    let mut sum: u64 = 0;
+    let mut i: usize = 0;
+    while i < shape.files {
+        let h = hold_of(shape, job, schedule, i, colour);
+        sum += value_if(covers(h, t), layout::size(job, i));
+        i += 1;
+    }
+    sum
+}
+
+// The working memory held in it at tick t.
+fn work_at<'a>(
+    shape: Shape,
+    job: &'a [u64; layout::JOB],
+    schedule: &'a [u64; layout::SCHEDULE],
+    colour: Colour,
+    t: u64,
+) -> u64
+    requires { ⌜ InBounds shape (now job) (now schedule) ⌝ }
+    ensures { λ r. ⌜ r ≡
+        workHeld (instanceOf shape (now (job .entry))) (scheduleOf shape (now (schedule .entry))) (asColour colour) t ⌝ }
+    ensures { λ r. ⌜ r ≤ mostWork ⌝ }
+{
+    let mut sum: u64 = 0;
+    let mut i: usize = 0;
+    while i < shape.tasks {
+        let h = work_hold(shape, job, schedule, i, colour);
+        sum += value_if(covers(h, t), layout::work(job, i));
+        i += 1;
+    }
+    sum
+}
+
 // The total held in the memory of the colour at tick t.
 pub fn held_at<'a>(
     shape: Shape,
@@ -186,14 +262,49 @@ pub fn held_at<'a>(
         held (instanceOf shape (now (job .entry))) (scheduleOf shape (now (schedule .entry))) (asColour colour) t ⌝ }
     ensures { λ r. ⌜ r ≤ mostHeld ⌝ }
 {
-    let mut sum: u64 = 0;
+    files_at(shape, job, schedule, colour, t) + work_at(shape, job, schedule, colour, t)
+}
+
+// A tick from which on the files in the memory of the colour change no more.
+fn files_horizon<'a>(
+    shape: Shape,
+    job: &'a [u64; layout::JOB],
+    schedule: &'a [u64; layout::SCHEDULE],
+    colour: Colour,
+) -> u64
+    requires { ⌜ InBounds shape (now job) (now schedule) ⌝ }
+    ensures { λ r. ⌜ r ≡
+        filesHorizon (instanceOf shape (now (job .entry))) (scheduleOf shape (now (schedule .entry))) (asColour colour) ⌝ }
+    ensures { λ r. ⌜ r ≤ lastTick ⌝ }
+{
+    let mut most: u64 = 0;
     let mut i: usize = 0;
     while i < shape.files {
-        let h = hold_of(shape, job, schedule, i, colour);
-        sum += value_if(covers(h, t), layout::size(job, i));
+        most = greater(most, settles(hold_of(shape, job, schedule, i, colour)));
         i += 1;
     }
-    sum
+    most
+}
+
+// A tick from which on the working memory in it changes no more.
+fn work_horizon<'a>(
+    shape: Shape,
+    job: &'a [u64; layout::JOB],
+    schedule: &'a [u64; layout::SCHEDULE],
+    colour: Colour,
+) -> u64
+    requires { ⌜ InBounds shape (now job) (now schedule) ⌝ }
+    ensures { λ r. ⌜ r ≡
+        workHorizon (instanceOf shape (now (job .entry))) (scheduleOf shape (now (schedule .entry))) (asColour colour) ⌝ }
+    ensures { λ r. ⌜ r ≤ lastTick ⌝ }
+{
+    let mut most: u64 = 0;
+    let mut i: usize = 0;
+    while i < shape.tasks {
+        most = greater(most, settles(work_hold(shape, job, schedule, i, colour)));
+        i += 1;
+    }
+    most
 }
 
 // A tick from which on the memory of the colour changes no more.
@@ -208,11 +319,8 @@ pub fn horizon_of<'a>(
         horizon (instanceOf shape (now (job .entry))) (scheduleOf shape (now (schedule .entry))) (asColour colour) ⌝ }
     ensures { λ r. ⌜ r ≤ lastTick ⌝ }
 {
-    let mut most: u64 = 0;
-    let mut i: usize = 0;
-    while i < shape.files {
-        most = greater(most, settles(hold_of(shape, job, schedule, i, colour)));
-        i += 1;
-    }
-    most
+    greater(
+        files_horizon(shape, job, schedule, colour),
+        work_horizon(shape, job, schedule, colour),
+    )
 }

@@ -2,21 +2,22 @@
 use Prim.Native.Nat.{ℕ, suc, _<_, _^_}
 use mathlib.Core.Bool.{Bool, true, false, _&&_}
 use mathlib.Core.Path.{_≡_, refl, sym, ap, _∙_}
-use mathlib.Core.List.{List, []}
+use mathlib.Core.List.{List, [], _∷_}
+use mathlib.Core.Logic.{inl, inr}
 use mathlib.Core.Option.{Option, none, some}
 use native.Mathlib.Omega.{arith}
 use lib.ListN.{getD}
-use Rattle.rules.specs.Limits.{maxDigits, Range, taskNumbers, processorCounts, memoryLimits, runTimes, moveTimes, fileSizes, ticks, inRange}
+use Rattle.rules.specs.Limits.{maxDigits, Range, taskNumbers, processorCounts, memoryLimits, runTimes, moveTimes, fileSizes, workSizes, ticks, inRange}
 use Rattle.rules.specs.Model.{Instance}
 use Rattle.rules.specs.Validity.{Verdict, refusedBy}
 use Rattle.rules.specs.Text.{Fault, malformed, outOfRange, undue, inSheet, faultNumber}
 use Rattle.rules.specs.Text.{Line, ended, unended, digitsOf, valueFrom, numeral, decimal, scan, Reading, wrong, ifInRange, orElse}
-use Rattle.rules.specs.InstanceText.{boardForm, taskForm, fileForm, asBoard, asTask, asFile, instanceLineBy, instanceLine, InstanceRead, refused, accepted, readInstance}
+use Rattle.rules.specs.InstanceText.{boardForm, taskForm, workForm, fileForm, asBoard, asTask, asWork, asFile, instanceLineBy, instanceLine, InstanceRead, refused, accepted, readInstance}
 use Rattle.rules.specs.ScheduleText.{runForm, moveForm, claimForm, processorNumbers, asRun, asMove, asClaim, scheduleLineBy, scheduleLine}
 use Rattle.rules.specs.Calls.{mark}
 use Rattle.rules.specs.SheetFaults as Sheet
 use Rattle.rules.specs.ScheduleFaults as Paper
-use Rattle.rules.specs.FinerTicks.{lineBehind, OneOf, first, second, third, NumberLaw}
+use Rattle.rules.specs.FinerTicks.{lineBehind, sheetForms, timetableForms, OneOf, NumberLaw}
 use Rattle.rules.specs.FinerTicks.{RefusedForWidth, longInSheet, largeRunTime, largeMoveTime, longInTimetable, ChangedMarks}
 use Rattle.rules.proofs.FormLaws.{none-some}
 use Rattle.rules.proofs.NumeralLaws.{spelled, digits-are, value-decimal, numeral-decimal, read-bound}
@@ -65,34 +66,33 @@ inThree r s t vs = inRange r (getD vs 0 0) && inRange s (getD vs 1 0) && inRange
 abbrev inFour : Range → Range → Range → Range → List ℕ → Bool
 inFour r s t u vs = inThree r s t vs && inRange u (getD vs 3 0)
 
-sheet-formed : (form l vs : List ℕ) → OneOf boardForm taskForm fileForm form → scan form l ≡ some vs → instanceLine (ended l) ≡ wrong malformed → ⊥
+-- a line that none of the forms reads
+abbrev NotRead : List ℕ → List (List ℕ) → Type 0
+NotRead l [] = Unit {0}
+NotRead l (f ∷ fs) = (scan f l ≡ none) × NotRead l fs
+
+not-read : (l : List ℕ) (fs : List (List ℕ)) → NotRead l fs → (form : List ℕ) → OneOf fs form → (vs : List ℕ) → scan form l ≡ some vs → ⊥
+not-read l [] n form o vs e = absurd o
+not-read l (f ∷ fs) n form (inl q) vs e = none-some (sym (n .0) ∙ rw q at e)
+not-read l (f ∷ fs) n form (inr o) vs e = not-read l fs (n .1) form o vs e
+
+sheet-formed : (form l vs : List ℕ) → OneOf sheetForms form → scan form l ≡ some vs → instanceLine (ended l) ≡ wrong malformed → ⊥
 unfolding instanceLineBy
 sheet-formed form l vs o e q =
     let x = or-formed asBoard (scan boardForm l) _ (λ vs. ranged-formed (inFour processorCounts memoryLimits processorCounts memoryLimits vs) _) q in
     let y = or-formed asTask (scan taskForm l) _ (λ vs. ranged-formed (inThree taskNumbers runTimes runTimes vs) _) (x .1) in
-    let z = or-formed asFile (scan fileForm l) _ (λ vs. ranged-formed (inFour taskNumbers taskNumbers fileSizes moveTimes vs) _) (y .1) in
-    go o (x .0) (y .0) (z .0) e
-  where
-    go : {form : List ℕ} → OneOf boardForm taskForm fileForm form → scan boardForm l ≡ none → scan taskForm l ≡ none → scan fileForm l ≡ none
-        → scan form l ≡ some vs → ⊥
-    go first b t f e = none-some (sym b ∙ e)
-    go second b t f e = none-some (sym t ∙ e)
-    go third b t f e = none-some (sym f ∙ e)
+    let w = or-formed asWork (scan workForm l) _ (λ vs. ranged-formed (inFour taskNumbers runTimes runTimes workSizes vs) _) (y .1) in
+    let z = or-formed asFile (scan fileForm l) _ (λ vs. ranged-formed (inFour taskNumbers taskNumbers fileSizes moveTimes vs) _) (w .1) in
+    not-read l sheetForms (x .0, (y .0, (w .0, (z .0, tt)))) form o vs e
 
-paper-formed : (I : Instance) (form l vs : List ℕ) → OneOf runForm moveForm claimForm form → scan form l ≡ some vs
+paper-formed : (I : Instance) (form l vs : List ℕ) → OneOf timetableForms form → scan form l ≡ some vs
     → scheduleLine I (ended l) ≡ wrong malformed → ⊥
 unfolding scheduleLineBy
 paper-formed I form l vs o e q =
     let x = or-formed (asRun I) (scan runForm l) _ (λ vs. ranged-formed (inThree taskNumbers (processorNumbers I) ticks vs) _) q in
     let y = or-formed asMove (scan moveForm l) _ (λ vs. ranged-formed (inThree taskNumbers taskNumbers ticks vs) _) (x .1) in
     let z = or-formed asClaim (scan claimForm l) _ (λ vs. ranged-formed (inThree ticks ticks ticks vs) _) (y .1) in
-    go o (x .0) (y .0) (z .0) e
-  where
-    go : {form : List ℕ} → OneOf runForm moveForm claimForm form → scan runForm l ≡ none → scan moveForm l ≡ none → scan claimForm l ≡ none
-        → scan form l ≡ some vs → ⊥
-    go first r m c e = none-some (sym r ∙ e)
-    go second r m c e = none-some (sym m ∙ e)
-    go third r m c e = none-some (sym c ∙ e)
+    not-read l timetableForms (x .0, (y .0, (z .0, tt))) form o vs e
 
 -- ---- what a mark now says of the line
 

@@ -1,11 +1,11 @@
--- For runs that take time Order 1 changed nothing: instantLaw, sheetTakesTime, formerHeldLaw, formerFreeLaw, formerValidLaw, formerPlaceLaw.
+-- Without W, Order 1 changed nothing for runs that take time: instantLaw, sheetTakesTime, formerHeldLaw, formerFreeLaw, formerValidLaw, formerPlaceLaw.
 use Prim.Native.Nat.{ℕ, _+_, _≤_, _<_, max}
 use mathlib.Core.Bool.{true, cond}
-use mathlib.Core.Path.{_≡_, sym, ap}
+use mathlib.Core.Path.{_≡_, sym, ap, _∙_}
 use native.Mathlib.Omega.{arith}
-use Rattle.rules.specs.Model.{Colour, Instance, limitOf, taskCount, fileAt, fileCount, sizeAt, isPlaced, Schedule, runAt, colourOf, finishOf, releaseOf}
+use Rattle.rules.specs.Model.{Colour, Instance, limitOf, taskCount, NoWork, fileAt, fileCount, sizeAt, isPlaced, Schedule, runAt, colourOf, finishOf, releaseOf}
 use Rattle.rules.specs.Model.{startAt, finishAt, readerRun}
-use Rattle.rules.specs.Residency.{covers, holdBy, holdOf, held}
+use Rattle.rules.specs.Residency.{covers, holdBy, holdOf, filesHeld, held}
 use Rattle.rules.specs.Validity.{Claim, ShareInstant, Apart, WithinLimits, Greatest, Valid, Shares, OverLimit}
 use Rattle.rules.specs.Promises.{WellFormed}
 use Rattle.rules.specs.FormerRules.{FormerShareInstant, formerHold, formerHeld, FormerShares, FormerOver, FormerApart, FormerWithin, FormerValid}
@@ -13,6 +13,7 @@ use Rattle.rules.specs.FormerRules.{InstantLaw, RunsTakeTime, SheetTakes
 use Rattle.rules.proofs.Tests.{split}
 use Rattle.rules.proofs.CountLaws.{sum-cong}
 use Rattle.rules.proofs.ResidencyLaws.{freeFromLaw}
+use Rattle.rules.proofs.WorkLaws.{filesAloneLaw}
 use Rattle.rules.proofs.CompleteLaws.{Complete, spellable-complete}
 use Rattle.rules.proofs.PlaceLaws.{first-same, placeLaw}
 
@@ -29,7 +30,7 @@ instantLaw I P i j a b = (
 pub sheetTakesTime : SheetTakesTime
 sheetTakesTime I T P i l q = omega (arith, T (colourOf I (runAt P i)) i l)
 
-module _ (I : Instance) (W : WellFormed I) (P : Schedule) (T : RunsTakeTime I P) where
+module _ (I : Instance) (W : WellFormed I) (N : NoWork I) (P : Schedule) (T : RunsTakeTime I P) where
   -- ---- what is held
 
   released : (k : ℕ) → k < fileCount I → isPlaced (readerRun I P k) ≡ true
@@ -40,9 +41,12 @@ module _ (I : Instance) (W : WellFormed I) (P : Schedule) (T : RunsTakeTime I P)
   unfolding holdBy formerHold
   hold-same c k l = split (isPlaced (readerRun I P k)) (λ q. rw (released k l q)) (λ q. rw q)
 
+  files-same : (c : Colour) (t : ℕ) → filesHeld I P c t ≡ formerHeld I P c t
+  unfolding filesHeld formerHeld
+  files-same c t = sum-cong (fileCount I) _ _ (λ k l. ap (λ h. cond (covers h t) (sizeAt I k) 0) (hold-same c k l))
+
   held-same : (c : Colour) (t : ℕ) → held I P c t ≡ formerHeld I P c t
-  unfolding held formerHeld
-  held-same c t = sum-cong (fileCount I) _ _ (λ k l. ap (λ h. cond (covers h t) (sizeAt I k) 0) (hold-same c k l))
+  held-same c t = filesAloneLaw I N P c .total t ∙ files-same c t
 
   over-former : (t : ℕ) → OverLimit I P t → FormerOver I P t
   over-former t o = record { memory = o .memory; more = omega (arith, o .more, held-same (o .memory) t) }
@@ -62,7 +66,7 @@ module _ (I : Instance) (W : WellFormed I) (P : Schedule) (T : RunsTakeTime I P)
   former-free : (c : Colour) (need s : ℕ) → ((u : ℕ) → s ≤ u → formerHeld I P c u + need ≤ limitOf I c) → (u : ℕ) → s ≤ u → held I P c u + need ≤ limitOf I c
   former-free c need s h u l = omega (arith, h u l, held-same c u)
 
-module _ (I : Instance) (W : WellFormed I) (P : Schedule) (T : RunsTakeTime I P) (complete : Complete I P) where
+module _ (I : Instance) (W : WellFormed I) (N : NoWork I) (P : Schedule) (T : RunsTakeTime I P) (complete : Complete I P) where
   -- ---- sharing an instant
 
   takes : (i : ℕ) → i < taskCount I → startAt P i < finishAt I P i
@@ -111,57 +115,57 @@ module _ (I : Instance) (W : WellFormed I) (P : Schedule) (T : RunsTakeTime I P)
   valid-former claim v = record {
     apart = apart-former (v .apart);
     onTime = v .onTime;
-    within = within-former I W P T (v .within);
+    within = within-former I W N P T (v .within);
     span = v .claimTrue .span;
-    bluePeak = greatest-same _ _ _ (λ t. held-same I W P T _ t) (v .claimTrue .bluePeak);
-    redPeak = greatest-same _ _ _ (λ t. held-same I W P T _ t) (v .claimTrue .redPeak);
+    bluePeak = greatest-same _ _ _ (λ t. held-same I W N P T _ t) (v .claimTrue .bluePeak);
+    redPeak = greatest-same _ _ _ (λ t. held-same I W N P T _ t) (v .claimTrue .redPeak);
   }
 
   former-valid : (claim : Claim) → FormerValid I P claim → Valid I P claim
   former-valid claim v = record {
     apart = former-apart (v .apart);
     onTime = v .onTime;
-    within = former-within I W P T (v .within);
+    within = former-within I W N P T (v .within);
     claimTrue = record {
       span = v .span;
-      bluePeak = greatest-same _ _ _ (λ t. sym (held-same I W P T _ t)) (v .bluePeak);
-      redPeak = greatest-same _ _ _ (λ t. sym (held-same I W P T _ t)) (v .redPeak);
+      bluePeak = greatest-same _ _ _ (λ t. sym (held-same I W N P T _ t)) (v .bluePeak);
+      redPeak = greatest-same _ _ _ (λ t. sym (held-same I W N P T _ t)) (v .redPeak);
     };
   }
 
 pub formerHeldLaw : FormerHeldLaw
-formerHeldLaw I W P T c t = held-same I W P T c t
+formerHeldLaw I W N P T c t = held-same I W N P T c t
 
 pub formerFreeLaw : FormerFreeLaw
-formerFreeLaw I W P T c need t = (
-  (λ e. first-same (free-former I W P T c need) (former-free I W P T c need) (freeFromLaw I P c need t .0 e)),
-  (λ f. freeFromLaw I P c need t .1 (first-same (former-free I W P T c need) (free-former I W P T c need) f)),
+formerFreeLaw I W N P T c need t = (
+  (λ e. first-same (free-former I W N P T c need) (former-free I W N P T c need) (freeFromLaw I P c need t .0 e)),
+  (λ f. freeFromLaw I P c need t .1 (first-same (former-free I W N P T c need) (free-former I W N P T c need) f)),
 )
 
 pub formerValidLaw : FormerValidLaw
-formerValidLaw I W P claim s T =
+formerValidLaw I W N P claim s T =
     let all = spellable-complete I P claim s in
-    (valid-former I W P T all claim, former-valid I W P T all claim)
+    (valid-former I W N P T all claim, former-valid I W N P T all claim)
 
 pub formerPlaceLaw : FormerPlaceLaw
-formerPlaceLaw I W P claim s T =
+formerPlaceLaw I W N P claim s T =
     let p = placeLaw I W P claim s in
     let all = spellable-complete I P claim s in
     record {
       at15 = λ n. (
-        (λ e. first-same (shares-former I W P T all) (former-shares I W P T all) (p .at15 n .0 e)),
-        (λ f. p .at15 n .1 (first-same (former-shares I W P T all) (shares-former I W P T all) f)),
+        (λ e. first-same (shares-former I W N P T all) (former-shares I W N P T all) (p .at15 n .0 e)),
+        (λ f. p .at15 n .1 (first-same (former-shares I W N P T all) (shares-former I W N P T all) f)),
       );
       at16 = λ n. (
-        (λ e. let (a, f) = p .at16 n .0 e in (apart-former I W P T all a, f)),
-        (λ x. p .at16 n .1 (former-apart I W P T all (x .0), x .1)),
+        (λ e. let (a, f) = p .at16 n .0 e in (apart-former I W N P T all a, f)),
+        (λ x. p .at16 n .1 (former-apart I W N P T all (x .0), x .1)),
       );
       at17 = λ n. (
-        (λ e. let (a, o, f) = p .at17 n .0 e in (apart-former I W P T all a, o, first-same (over-former I W P T) (former-over I W P T) f)),
-        (λ x. p .at17 n .1 (former-apart I W P T all (x .0), x .1, first-same (former-over I W P T) (over-former I W P T) (x .2))),
+        (λ e. let (a, o, f) = p .at17 n .0 e in (apart-former I W N P T all a, o, first-same (over-former I W N P T) (former-over I W N P T) f)),
+        (λ x. p .at17 n .1 (former-apart I W N P T all (x .0), x .1, first-same (former-over I W N P T) (over-former I W N P T) (x .2))),
       );
       at18 = (
-        (λ e. let (a, o, w, n) = p .at18 .0 e in (apart-former I W P T all a, o, within-former I W P T w, λ v. n (former-valid I W P T all claim v))),
-        (λ x. p .at18 .1 (former-apart I W P T all (x .0), x .1, former-within I W P T (x .2), λ v. x .3 (valid-former I W P T all claim v))),
+        (λ e. let (a, o, w, n) = p .at18 .0 e in (apart-former I W N P T all a, o, within-former I W N P T w, λ v. n (former-valid I W N P T all claim v))),
+        (λ x. p .at18 .1 (former-apart I W N P T all (x .0), x .1, former-within I W N P T (x .2), λ v. x .3 (valid-former I W N P T all claim v))),
       );
     }

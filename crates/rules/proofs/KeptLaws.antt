@@ -14,14 +14,14 @@ use Rattle.rules.specs.Limits.{maxText, current, former}
 use Rattle.rules.specs.Model.{Instance, taskCount, fileCount, fileAt, moved, Schedule}
 use Rattle.rules.specs.Validity.{Claim, Verdict, refusedBy}
 use Rattle.rules.specs.Text.{Fault, malformed, outOfRange, Line, unended, linesOf, due}
-use Rattle.rules.specs.InstanceText.{boardForm, taskForm, fileForm, instanceLineBy, instanceLine, withBoard, withLine, InstanceRead, refused, accepted}
+use Rattle.rules.specs.InstanceText.{instanceLineBy, instanceLine, withBoard, withLine, InstanceRead, refused, accepted}
 use Rattle.rules.specs.InstanceText.{readRestBy, readLinesBy, readInstanceBy}
-use Rattle.rules.specs.ScheduleText.{runForm, moveForm, claimForm, ScheduleLine, scheduleLineBy, scheduleLine, runOf, moveOf, claimOf}
+use Rattle.rules.specs.ScheduleText.{ScheduleLine, scheduleLineBy, scheduleLine, runOf, moveOf, claimOf}
 use Rattle.rules.specs.ScheduleText.{ScheduleRead, refused as refusedTimetable, readEndBy, readClaimBy, withMove, readMovesBy, withRun, readRunsBy, readScheduleBy}
 use Rattle.rules.specs.Scheduling.{Planner}
 use Rattle.rules.specs.Calls.{markBy, planBy}
 use Rattle.rules.specs.Simulation.{simulateBy}
-use Rattle.rules.specs.FinerTicks.{lineBehind, RefusedForWidth, longInSheet, largeRunTime, largeMoveTime, longInTimetable, KeptMarks, KeptAccepted, KeptPlan, KeptPlans, KeptSimulations}
+use Rattle.rules.specs.FinerTicks.{lineBehind, sheetForms, timetableForms, RefusedForWidth, longInSheet, largeRunTime, largeMoveTime, longInTimetable, KeptMarks, KeptAccepted, KeptPlan, KeptPlans, KeptSimulations}
 use Rattle.rules.proofs.Tests.{split}
 use Rattle.rules.proofs.ReadingLaws.{by-reading}
 use Rattle.rules.proofs.KeptLineLaws.{isLong, isLarge, isSame, due-kept, LongIn, LargeTime, ofRun, ofMove, sheet-line, paper-line}
@@ -29,13 +29,13 @@ use Rattle.rules.proofs.KeptLineLaws.{isLong, isLarge, isSame, due-kept
 -- ---- the line at a place
 
 module _ (bs : List ℕ) (at : ℕ) (l : Line) (ls : List Line) (e : drop at (linesOf bs) ≡ l ∷ ls) where
-  line-behind : l ≡ lineBehind bs at
+  pub line-behind : l ≡ lineBehind bs at
   line-behind =
       let x : getD (drop at (linesOf bs)) 0 (unended []) ≡ getD (linesOf bs) at (unended []) = rw add-zero at (getD-drop at (linesOf bs) 0 (unended [])) in
       let y : getD (drop at (linesOf bs)) 0 (unended []) ≡ l = rw e in
       sym y ∙ x
 
-  lines-behind : drop (suc at) (linesOf bs) ≡ ls
+  pub lines-behind : drop (suc at) (linesOf bs) ≡ ls
   lines-behind =
       let n : at + 1 ≡ suc at = omega arith in
       let x : drop 1 (drop at (linesOf bs)) ≡ drop (suc at) (linesOf bs) = rw n at (drop-drop 1 at (linesOf bs)) in
@@ -44,7 +44,7 @@ module _ (bs : List ℕ) (at : ℕ) (l : Line) (ls : List Line) (e : drop at (li
 -- ---- a board sheet
 
 abbrev LongOnSheet : Line → Type 0
-LongOnSheet = LongIn boardForm taskForm fileForm
+LongOnSheet = LongIn sheetForms
 
 -- the sheet's reading x by the former widths, and y by the widths now
 data KeptSheet (bs : List ℕ) (x y : InstanceRead) : Type 0 where
@@ -87,7 +87,7 @@ module _ (bs : List ℕ) where
 -- ---- a timetable
 
 abbrev LongInPaper : Line → Type 0
-LongInPaper = LongIn runForm moveForm claimForm
+LongInPaper = LongIn timetableForms
 
 data KeptPaper (bs : List ℕ) (x y : ScheduleRead) : Type 0 where
   paperLong : (n : ℕ) → x ≡ refusedTimetable malformed (suc n) → LongInPaper (lineBehind bs n) → KeptPaper bs x y

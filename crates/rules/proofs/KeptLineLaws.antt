@@ -5,20 +5,20 @@ use mathlib.Core.Bool.{Bool, true, false}
 use mathlib.Core.List.{List}
 use mathlib.Core.Option.{Option, none, some}
 use native.Mathlib.Omega.{arith}
-use lib.ListN.{getD}
-use Rattle.rules.specs.Limits.{Range, taskNumbers, fileSizes, runTimes, moveTimes, ticks, current, former, inRange}
+use lib.ListN.{length, getD}
+use Rattle.rules.specs.Limits.{maxDigits, Range, taskNumbers, fileSizes, workSizes, runTimes, moveTimes, ticks, current, former, inRange}
 use Rattle.rules.specs.Model.{Colour, blue, red, Task, timeOn, Instance}
 use Rattle.rules.specs.Text.{malformed, outOfRange, Line, ended, unended, scanBy, scan, fill, Reading, wrong, right, ifInRange, orElse, due}
-use Rattle.rules.specs.InstanceText.{boardForm, taskForm, fileForm, InstanceLine, taskLine, fileLine, asBoard, asTaskBy, asTask, asFileBy, asFile}
+use Rattle.rules.specs.InstanceText.{boardForm, taskForm, workForm, fileForm, InstanceLine, taskLine, fileLine, asBoard, asTaskBy, asTask, asWorkBy, asWork, asFileBy, asFile}
 use Rattle.rules.specs.InstanceText.{instanceLineBy, instanceLine}
 use Rattle.rules.specs.ScheduleText.{runForm, moveForm, claimForm, asRunBy, asMoveBy, asClaimBy, scheduleLineBy, scheduleLine}
 use Rattle.rules.specs.Promises.{In}
-use Rattle.rules.specs.FinerTicks.{OneOf, LongNumber}
+use Rattle.rules.specs.FinerTicks.{sheetForms, timetableForms, OneOf, LongNumber}
 use Rattle.rules.proofs.Tests.{by-order, clash}
-use Rattle.rules.proofs.FormLaws.{scan-only}
+use Rattle.rules.proofs.FormLaws.{numbers, Numerals, scan-only}
 use Rattle.rules.proofs.ReadingLaws.{tested-3, tested-4, in-tested}
-use Rattle.rules.proofs.InstanceLineLaws.{as-task, as-file}
-use Rattle.rules.proofs.WidthLaws.{formerDigits, numerals-at, Agree, agree, tooLong, agreed}
+use Rattle.rules.proofs.InstanceLineLaws.{as-task, as-work, as-file, no-board-task, no-board-work, no-board-file, no-task-work, no-task-file, no-work-file}
+use Rattle.rules.proofs.WidthLaws.{formerDigits, numerals-at, Exclusive, exclusive, reversed, Alike, Unread, Agree, agree, tooLong, agreed}
 
 -- the reading x of a line by the former widths, and y by the widths now
 pub data Kept (Long Large : Type 0) {A : Type 0} (x y : Reading A) : Type 0 where
@@ -50,8 +50,8 @@ module _ (r s : Range) (n : ℕ) (least : r .least ≡ s .least) where
 -- ---- a line of a board sheet
 
 -- a line has one of the forms, with a number too long
-abbrev pub LongIn : List ℕ → List ℕ → List ℕ → Line → Type 0
-LongIn f g h l = (form : List ℕ) × OneOf f g h form × LongNumber form l
+abbrev pub LongIn : List (List ℕ) → Line → Type 0
+LongIn fs l = (form : List ℕ) × OneOf fs form × LongNumber form l
 
 -- a line is readable now, with a time too large
 pub data LargeTime (l : Line) : Type 0 where
@@ -59,18 +59,18 @@ pub data LargeTime (l : Line) : Type 0 where
   ofMove : (i j f c : ℕ) → instanceLine l ≡ right (fileLine i j f c) → former .moveTimes .most < c → LargeTime l
 
 abbrev SheetLine : Line → Type 0
-SheetLine l = Kept (LongIn boardForm taskForm fileForm l) (LargeTime l) (instanceLineBy former l) (instanceLine l)
+SheetLine l = Kept (LongIn sheetForms l) (LargeTime l) (instanceLineBy former l) (instanceLine l)
 
 module _ (l : List ℕ) (b : scan boardForm l ≡ none) where
   abbrev Numbers : Reading InstanceLine → Reading InstanceLine → Type 0
-  Numbers = Kept (LongIn boardForm taskForm fileForm (ended l)) (LargeTime (ended l))
+  Numbers = Kept (LongIn sheetForms (ended l)) (LargeTime (ended l))
 
   task-kept : (vs : List ℕ) → scan taskForm l ≡ some vs → Numbers (asTaskBy former vs) (asTask vs)
   task-kept vs e =
       let i = getD vs 0 0 in
       let x = getD vs 1 0 in
       let y = getD vs 2 0 in
-      let a : Task = record { onBlue = x; onRed = y } in
+      let a : Task = record { onBlue = x; onRed = y; work = 0 } in
       range-kept (taskLine i a) _ _
       (λ o.
       let (p, q, r) = tested-3 taskNumbers (former .runTimes) (former .runTimes) i x y o in
@@ -83,8 +83,26 @@ module _ (l : List ℕ) (b : scan boardForm l ≡ none) where
       clash (rw (in-tested _ _ p, in-tested (former .runTimes) x (record { least = q .least; most = hx }), in-tested (former .runTimes) y (record { least = r .least; most = hy }))) o)))
 
   module _ (t : scan taskForm l ≡ none) where
-    file-kept : (vs : List ℕ) → scan fileForm l ≡ some vs → Numbers (asFileBy former vs) (asFile vs)
-    file-kept vs e =
+    work-kept : (vs : List ℕ) → scan workForm l ≡ some vs → Numbers (asWorkBy former vs) (asWork vs)
+    work-kept vs e =
+        let i = getD vs 0 0 in
+        let x = getD vs 1 0 in
+        let y = getD vs 2 0 in
+        let w = getD vs 3 0 in
+        let a : Task = record { onBlue = x; onRed = y; work = w } in
+        range-kept (taskLine i a) _ _
+        (λ o.
+        let (p, q, r, s) = tested-4 taskNumbers (former .runTimes) (former .runTimes) workSizes i x y w o in
+        rw (in-tested _ _ p, in-tested runTimes x (wider (former .runTimes) runTimes x refl (omega arith) q), in-tested runTimes y (wider (former .runTimes) runTimes y refl (omega arith) r), in-tested _ _ s))
+        (λ o u.
+        let (p, q, r, s) = tested-4 taskNumbers runTimes runTimes workSizes i x y w u in
+        let line : instanceLine (ended l) ≡ right (taskLine i a) = as-work l vs b t e ∙ rw u in
+        by-order (former .runTimes .most) x (λ h. ofRun i a blue line h) (λ hx.
+        by-order (former .runTimes .most) y (λ h. ofRun i a red line h) (λ hy.
+        clash (rw (in-tested _ _ p, in-tested (former .runTimes) x (record { least = q .least; most = hx }), in-tested (former .runTimes) y (record { least = r .least; most = hy }), in-tested _ _ s)) o)))
+
+    file-kept : scan workForm l ≡ none → (vs : List ℕ) → scan fileForm l ≡ some vs → Numbers (asFileBy former vs) (asFile vs)
+    file-kept w vs e =
         let i = getD vs 0 0 in
         let j = getD vs 1 0 in
         let f = getD vs 2 0 in
@@ -95,34 +113,45 @@ module _ (l : List ℕ) (b : scan boardForm l ≡ none) where
         rw (in-tested _ _ p, in-tested _ _ q, in-tested _ _ r, in-tested moveTimes c (wider (former .moveTimes) moveTimes c refl (omega arith) s)))
         (λ o u.
         let (p, q, r, s) = tested-4 taskNumbers taskNumbers fileSizes moveTimes i j f c u in
-        let line : instanceLine (ended l) ≡ right (fileLine i j f c) = as-file l vs b t e ∙ rw u in
+        let line : instanceLine (ended l) ≡ right (fileLine i j f c) = as-file l vs b t w e ∙ rw u in
         by-order (former .moveTimes .most) c (λ h. ofMove i j f c line h) (λ hc.
         clash (rw (in-tested _ _ p, in-tested _ _ q, in-tested _ _ r, in-tested (former .moveTimes) c (record { least = s .least; most = hc }))) o))
 
 module _ (l : List ℕ) where
-  sheet-long : scanBy formerDigits boardForm l ≡ none → scanBy formerDigits taskForm l ≡ none → scanBy formerDigits fileForm l ≡ none
-      → instanceLineBy former (ended l) ≡ wrong malformed
+  sheet-long : Unread l sheetForms → instanceLineBy former (ended l) ≡ wrong malformed
   unfolding instanceLineBy
-  sheet-long b t f = rw (b, t, f)
+  sheet-long (b, (t, (w, (f, _)))) = rw (b, t, w, f)
 
-  sheet-same : scanBy formerDigits boardForm l ≡ scan boardForm l → scanBy formerDigits taskForm l ≡ scan taskForm l
-      → scanBy formerDigits fileForm l ≡ scan fileForm l → SheetLine (ended l)
+  sheet-same : Alike l sheetForms → SheetLine (ended l)
   unfolding instanceLineBy
-  sheet-same b t f = rw (b, t, f)
+  sheet-same (b, (t, (w, (f, _)))) = rw (b, t, w, f)
       (or-kept asBoard asBoard (scan boardForm l) _ _ (λ vs e. isSame refl)
       (λ n. or-kept (asTaskBy former) asTask (scan taskForm l) _ _ (task-kept l n)
-      (λ m. or-kept (asFileBy former) asFile (scan fileForm l) _ _ (file-kept l n m) (λ _. isSame refl))))
+      (λ m. or-kept (asWorkBy former) asWork (scan workForm l) _ _ (work-kept l n m)
+      (λ k. or-kept (asFileBy former) asFile (scan fileForm l) _ _ (file-kept l n m k) (λ _. isSame refl)))))
 
-  sheet-forms : Agree boardForm taskForm fileForm l
-  unfolding scanBy fill
-  sheet-forms = agreed boardForm taskForm fileForm l refl refl refl (λ vs. refl) (λ vs. refl) (λ vs. refl) (λ vs. refl) (λ vs. refl) (λ vs. refl)
+  sheet-forms : Agree sheetForms l
+  sheet-forms = agreed l sheetForms (refl, (refl, (refl, (refl, tt)))) (
+    (
+      behind boardForm taskForm (λ vs _ _. no-board-task vs),
+      (behind boardForm workForm (λ vs _ _. no-board-work vs), (behind boardForm fileForm (λ vs _ _. no-board-file vs), tt)),
+    ),
+    (
+      (behind taskForm workForm (λ vs n. no-task-work vs (omega arith)), (behind taskForm fileForm (λ vs _ _. no-task-file vs), tt)),
+      ((behind workForm fileForm (λ vs _ _. no-work-file vs), tt), (tt, tt)),
+    ),
+  )
+    where
+      -- the later form, filled in, is not read by the earlier one
+      behind : (f g : List ℕ) → ((vs : List ℕ) → length vs ≡ numbers g → Numerals maxDigits vs → scan f (fill g vs) ≡ none) → Exclusive f g
+      behind f g h = reversed g f (exclusive g f h)
 
 pub sheet-line : (l : Line) → SheetLine l
 unfolding instanceLineBy
 sheet-line (unended l) = isSame refl
 sheet-line (ended l) = elim (sheet-forms l) [
-  | agree b t f ↦ sheet-same l b t f
-  | tooLong b t f form o x ↦ isLong (sheet-long l b t f) (form, o, x)
+  | agree a ↦ sheet-same l a
+  | tooLong n form o x ↦ isLong (sheet-long l n) (form, o, x)
 ]
 
 -- ---- a line of a timetable
@@ -134,35 +163,36 @@ tick-kept n h =
     ∙ sym (in-tested ticks n (record { least = omega arith; most = omega arith }))
 
 abbrev PaperLine : Instance → Line → Type 0
-PaperLine I l = Kept (LongIn runForm moveForm claimForm l) ⊥ (scheduleLineBy former I l) (scheduleLine I l)
+PaperLine I l = Kept (LongIn timetableForms l) ⊥ (scheduleLineBy former I l) (scheduleLine I l)
 
 module _ (l : List ℕ) where
   ticks-kept : (form vs : List ℕ) → scanBy formerDigits form l ≡ some vs → (j : ℕ) → inRange (former .ticks) (getD vs j 0) ≡ inRange ticks (getD vs j 0)
   ticks-kept form vs e j =
       tick-kept (getD vs j 0) (numerals-at formerDigits vs (scan-only formerDigits (omega arith) form l vs e .numerals) (omega arith) j)
 
-  paper-long : (I : Instance) → scanBy formerDigits runForm l ≡ none → scanBy formerDigits moveForm l ≡ none → scanBy formerDigits claimForm l ≡ none
-      → scheduleLineBy former I (ended l) ≡ wrong malformed
+  paper-long : (I : Instance) → Unread l timetableForms → scheduleLineBy former I (ended l) ≡ wrong malformed
   unfolding scheduleLineBy
-  paper-long I r m c = rw (r, m, c)
+  paper-long I (r, (m, (c, _))) = rw (r, m, c)
 
-  paper-same : (I : Instance) → scanBy formerDigits runForm l ≡ scan runForm l → scanBy formerDigits moveForm l ≡ scan moveForm l
-      → scanBy formerDigits claimForm l ≡ scan claimForm l → PaperLine I (ended l)
+  paper-same : (I : Instance) → Alike l timetableForms → PaperLine I (ended l)
   unfolding scheduleLineBy
-  paper-same I r m c = rw (r, m, c)
+  paper-same I (r, (m, (c, _))) = rw (r, m, c)
       (or-kept (asRunBy former I) (asRunBy current I) (scan runForm l) _ _ (λ vs e. let x = ticks-kept runForm vs (r ∙ e) in isSame (rw (x 2)))
       (λ _. or-kept (asMoveBy former) (asMoveBy current) (scan moveForm l) _ _ (λ vs e. let x = ticks-kept moveForm vs (m ∙ e) in isSame (rw (x 2)))
       (λ _. or-kept (asClaimBy former) (asClaimBy current) (scan claimForm l) _ _
       (λ vs e. let x = ticks-kept claimForm vs (c ∙ e) in isSame (rw (x 0, x 1, x 2))) (λ _. isSame refl))))
 
-  paper-forms : Agree runForm moveForm claimForm l
+  paper-forms : Agree timetableForms l
   unfolding scanBy fill
-  paper-forms = agreed runForm moveForm claimForm l refl refl refl (λ vs. refl) (λ vs. refl) (λ vs. refl) (λ vs. refl) (λ vs. refl) (λ vs. refl)
+  paper-forms = agreed l timetableForms (refl, (refl, (refl, tt))) (
+    (exclusive runForm moveForm (λ vs _ _. refl), (exclusive runForm claimForm (λ vs _ _. refl), tt)),
+    ((exclusive moveForm claimForm (λ vs _ _. refl), tt), (tt, tt)),
+  )
 
 pub paper-line : (I : Instance) (l : Line) → PaperLine I l
 unfolding scheduleLineBy
 paper-line I (unended l) = isSame refl
 paper-line I (ended l) = elim (paper-forms l) [
-  | agree r m c ↦ paper-same l I r m c
-  | tooLong r m c form o x ↦ isLong (paper-long l I r m c) (form, o, x)
+  | agree a ↦ paper-same l I a
+  | tooLong n form o x ↦ isLong (paper-long l I n) (form, o, x)
 ]

@@ -6,7 +6,7 @@ use mathlib.Core.Option.{some}
 use mathlib.Core.Path.{_≡_, refl, sym, _∙_, ap}
 use native.Mathlib.Omega.{arith}
 use lib.Dec.{leb}
-use Rattle.rules.specs.Model.{Colour, blue, red, Instance, taskCount, fileCount, moveTimeAt, Schedule}
+use Rattle.rules.specs.Model.{Colour, blue, red, Instance, taskCount, fileCount, moveTimeAt, workAt, Schedule}
 use Rattle.rules.specs.Scheduling.{Partial, ready, reads, crossing, crossingSize, outputSize, crossingTime, arrival, inputStart, freeFrom, aware, plain, memoryStart, earliestStart, assign, finishOn, Choice, nothing, choose, earlier, bothColours, byWeight, firstThatFits, earliestBelow, Planner, heft, minMin, parentOf, roundOf, complete, stuck, rounds, outcome}
 use Rattle.rules.specs.Promises.{WellFormed, Ample}
 use Rattle.rules.proofs.Tests.{split, and-true}
@@ -71,7 +71,7 @@ time-within I Q i c = where-under (fileCount I) (crossing I (Q .schedule) i c) (
 
 module _ (I : Instance) (W : WellFormed I) (ample : Ample I) where
   module _ (Q : Partial) (i : ℕ) (ri : ready I (Q .schedule) i ≡ true) where
-    free-at-once : (c : Colour) (need : ℕ) → need ≤ crossingSize I (Q .schedule) i c + outputSize I i → freeFrom I (Q .schedule) c need ≡ some 0
+    free-at-once : (c : Colour) (need : ℕ) → need ≤ crossingSize I (Q .schedule) i c + outputSize I i + workAt I i → freeFrom I (Q .schedule) c need ≡ some 0
     free-at-once c need l = freeFromLaw I (Q .schedule) c need 0 .1 (record {
       holds = λ t _. omega (arith, sizes-suffice I (Q .schedule) i ri c t (W .ordered), ample c);
       least = λ t _. omega arith;
@@ -80,7 +80,7 @@ module _ (I : Instance) (W : WellFormed I) (ample : Ample I) where
     memory-ample : (c : Colour) → memoryStart aware I (Q .schedule) i c ≡ some (crossingTime I (Q .schedule) i c)
     unfolding memoryStart
     memory-ample c =
-        let running = free-at-once c (crossingSize I (Q .schedule) i c + outputSize I i) (omega arith) in
+        let running = free-at-once c (crossingSize I (Q .schedule) i c + outputSize I i + workAt I i) (omega arith) in
         let moving = free-at-once c (crossingSize I (Q .schedule) i c) (omega arith) in
         rw (running, moving) (ap some (omega arith))
 

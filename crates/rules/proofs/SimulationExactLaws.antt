@@ -10,20 +10,20 @@ use borrow.Author.Tests.{ltb-true, ltb-false, lt-ltb, leb-true, leb-false, le-le
 use Rattle.rules.specs.Count.{anyBelow}
 use Rattle.rules.specs.Limits.{maxSteps}
 use Rattle.rules.specs.Model.{Colour, blue, red, Instance, taskCount, fileCount, Schedule, startAt, moveAt, moved}
-use Rattle.rules.specs.Residency.{Hold, never, during, since, covers, holdOf}
+use Rattle.rules.specs.Residency.{Hold, never, during, since, covers, holdOf, workOf}
 use Rattle.rules.specs.Validity.{refusedBy as refusal, judge, makespan}
 use Rattle.rules.specs.Text.{Fault, Source, inSheet, inTimetable, faultNumber}
 use Rattle.rules.specs.Calls.{mark}
-use Rattle.rules.specs.Simulation.{turns, runTurns, moveTurns, fileTurns, isTurn, faultAt, firstFaulty, Progress, refusedBy, stepsLeft, stopped, ended, numberOf, placeOf, Simulation, progressOf, watch, simulate, refusedText}
+use Rattle.rules.specs.Simulation.{turns, runTurns, taskTurns, moveTurns, fileTurns, isTurn, faultAt, firstFaulty, Progress, refusedBy, stepsLeft, stopped, ended, numberOf, placeOf, Simulation, progressOf, watch, simulate, refusedText}
 use Rattle.rules.specs.SimulationPromises.{isFault, isOfText, FaultOf, by15, by16, by17}
-use Rattle.rules.specs.SimulationExact.{Begins, Ceases, Turn, runStarts, runEnds, moveStarts, moveEnds, holdStarts, holdEnds, TurnLaw, TextExact, StepsCapped, Told, NumbersTell}
+use Rattle.rules.specs.SimulationExact.{Begins, Ceases, Turn, runStarts, runEnds, moveStarts, moveEnds, holdStarts, holdEnds, workStarts, workEnds, TurnLaw, TextExact, StepsCapped, Told, NumbersTell}
 use Rattle.rules.proofs.Tests.{clash, and-true, or-left, or-right, by-or, is-false, or-yes}
 use Rattle.rules.proofs.CountLaws.{any-found}
 use Rattle.rules.proofs.JudgeLaws.{judged}
 use Rattle.rules.proofs.MarkerLaws.{mark-sheet, mark-timetable, mark-judges}
 use Rattle.rules.proofs.TickFaultLaws.{fault-number, first-faulty}
 use Rattle.rules.proofs.WatchLaws.{Ends, walks, stops, goes, ends, progress, watch-progress}
-use Rattle.rules.proofs.WalkLaws.{run-turn, file-turn, start-turn, move-turn, hold-turn}
+use Rattle.rules.proofs.WalkLaws.{run-turn, file-turn, start-turn, move-turn, hold-turn, work-turn}
 use Rattle.rules.proofs.SimulatorLaws.{Texts, badSheet, badTimetable, good, texts, simulate-sheet, simulate-timetable, simulate-read, judged-no-text, sheet-formed, read-spellable, text-number, fault-text, text-fault, text-zero}
 use Rattle.rules.proofs.CompleteLaws.{spellable-complete}
 
@@ -99,6 +99,12 @@ module _ (I : Instance) (P : Schedule) (t : ℕ) where
     | inr b ↦ holdEnds c k l (record { last = b .last; next = b .next; was = b .was; gone = b .gone })
   ]
 
+  work-says : (c : Colour) (i : ℕ) → i < taskCount I → turns (workOf I P c i) t ≡ true → Turn I P t
+  work-says c i l e = elim (turns-says (workOf I P c i) t e) [
+    | inl b ↦ workStarts c i l (record { now = b .now; earlier = b .earlier })
+    | inr b ↦ workEnds c i l (record { last = b .last; next = b .next; was = b .was; gone = b .gone })
+  ]
+
   run-says : (i : ℕ) → i < taskCount I → runTurns I P t i ≡ true → Turn I P t
   run-says i l e = by-or (eqb (startAt P i) t) _ e (λ q. runStarts i l (eqb-true _ _ q)) (λ q. runEnds i l (eqb-true _ _ q))
 
@@ -106,6 +112,12 @@ module _ (I : Instance) (P : Schedule) (t : ℕ) where
   move-says k l e =
       let x = and-true (moved I P k) _ e in
       by-or (eqb (moveAt P k) t) _ (x .1) (λ q. moveStarts k l (x .0) (eqb-true _ _ q)) (λ q. moveEnds k l (x .0) (eqb-true _ _ q))
+
+  task-says : (i : ℕ) → i < taskCount I → taskTurns I P t i ≡ true → Turn I P t
+  task-says i l e =
+      by-or (runTurns I P t i || turns (workOf I P blue i) t) _ e
+      (λ a. by-or (runTurns I P t i) _ a (run-says i l) (work-says blue i l))
+      (work-says red i l)
 
   file-says : (k : ℕ) → k < fileCount I → fileTurns I P t k ≡ true → Turn I P t
   file-says k l e =
@@ -115,8 +127,8 @@ module _ (I : Instance) (P : Schedule) (t : ℕ) where
 
   turn-says : isTurn I P t ≡ true → Turn I P t
   unfolding isTurn
-  turn-says e = by-or (anyBelow (taskCount I) (runTurns I P t)) _ e
-      (λ a. let r = any-found (taskCount I) (runTurns I P t) a in run-says (r .0) (r .1) (r .2))
+  turn-says e = by-or (anyBelow (taskCount I) (taskTurns I P t)) _ e
+      (λ a. let r = any-found (taskCount I) (taskTurns I P t) a in task-says (r .0) (r .1) (r .2))
       (λ a. let r = any-found (fileCount I) (fileTurns I P t) a in file-says (r .0) (r .1) (r .2))
 
   says-turn : Turn I P t → isTurn I P t ≡ true
@@ -130,6 +142,9 @@ module _ (I : Instance) (P : Schedule) (t : ℕ) where
   says-turn (holdStarts c k l b) = hold-turn I P t c k l (begins-turns (holdOf I P c k) t (record { now = b .now; earlier = b .earlier }))
   says-turn (holdEnds c k l b) =
       hold-turn I P t c k l (ceases-turns (holdOf I P c k) t (record { last = b .last; next = b .next; was = b .was; gone = b .gone }))
+  says-turn (workStarts c i l b) = work-turn I P t c i l (begins-turns (workOf I P c i) t (record { now = b .now; earlier = b .earlier }))
+  says-turn (workEnds c i l b) =
+      work-turn I P t c i l (ceases-turns (workOf I P c i) t (record { last = b .last; next = b .next; was = b .was; gone = b .gone }))
 
 pub turnLaw : TurnLaw
 turnLaw I P t = (turn-says I P t, says-turn I P t)

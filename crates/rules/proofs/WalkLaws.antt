@@ -7,12 +7,12 @@ use native.Mathlib.Decide.{decLe}
 use lib.Dec.{leb}
 use lib.ListN.{getD}
 use borrow.Author.Tests.{ltb-true, ltb-false, lt-ltb, leb-true, eq-eqb}
-use Rattle.rules.specs.Count.{sumBelow, countWhere, anyBelow}
-use Rattle.rules.specs.Model.{Colour, blue, red, Instance, taskCount, fileAt, fileCount, sizeAt, Schedule, startAt, moveAt, moved}
-use Rattle.rules.specs.Residency.{Hold, never, during, since, holdOf, covers, isHeld, held}
+use Rattle.rules.specs.Count.{sumBelow, countWhere, anyBelow, sumWhere}
+use Rattle.rules.specs.Model.{Colour, blue, red, Instance, taskCount, workAt, fileAt, fileCount, sizeAt, Schedule, startAt, moveAt, moved}
+use Rattle.rules.specs.Residency.{Hold, never, during, since, holdOf, workOf, covers, filesHeld, workHeld, held}
 use Rattle.rules.specs.Validity.{OverLimit, makespan}
 use Rattle.rules.specs.Promises.{WellFormed, First}
-use Rattle.rules.specs.Simulation.{turns, runTurns, moveTurns, fileTurns, isTurn, faultAt, closing, firstFaulty, stepTicks, stepCount, stateAt, stateAfter, stepsLeft, stopped, ended, progressOf, watch}
+use Rattle.rules.specs.Simulation.{turns, runTurns, taskTurns, moveTurns, fileTurns, isTurn, faultAt, closing, firstFaulty, stepTicks, stepCount, stateAt, stateAfter, stepsLeft, stopped, ended, progressOf, watch}
 use Rattle.rules.specs.SimulationPromises.{earlyMove, earlyStart, FaultOf, by15, by16, by17, Faulty, FaultTurn}
 use Rattle.rules.proofs.Tests.{split, clash, and-true, or-left, or-right}
 use Rattle.rules.proofs.CountLaws.{sum-cong, sum-less, sum-zero, any-some}
@@ -26,13 +26,16 @@ use Rattle.rules.proofs.WatchLaws.{found, progress-stops, progress-walk
 -- ---- what turns
 
 module _ (I : Instance) (P : Schedule) (t : ℕ) where
-  pub run-turn : (i : ℕ) → i < taskCount I → runTurns I P t i ≡ true → isTurn I P t ≡ true
+  pub task-turn : (i : ℕ) → i < taskCount I → taskTurns I P t i ≡ true → isTurn I P t ≡ true
   unfolding isTurn
-  run-turn i l e = or-left _ (anyBelow (fileCount I) (fileTurns I P t)) (any-some (taskCount I) (runTurns I P t) i l e)
+  task-turn i l e = or-left _ (anyBelow (fileCount I) (fileTurns I P t)) (any-some (taskCount I) (taskTurns I P t) i l e)
+
+  pub run-turn : (i : ℕ) → i < taskCount I → runTurns I P t i ≡ true → isTurn I P t ≡ true
+  run-turn i l e = task-turn i l (or-left (runTurns I P t i || turns (workOf I P blue i) t) _ (or-left (runTurns I P t i) _ e))
 
   pub file-turn : (k : ℕ) → k < fileCount I → fileTurns I P t k ≡ true → isTurn I P t ≡ true
   unfolding isTurn
-  file-turn k l e = or-right (anyBelow (taskCount I) (runTurns I P t)) _ (any-some (fileCount I) (fileTurns I P t) k l e)
+  file-turn k l e = or-right (anyBelow (taskCount I) (taskTurns I P t)) _ (any-some (fileCount I) (fileTurns I P t) k l e)
 
   pub start-turn : (i : ℕ) → i < taskCount I → startAt P i ≡ t → isTurn I P t ≡ true
   start-turn i l e = run-turn i l (rw (eq-eqb (startAt P i) t e))
@@ -44,6 +47,11 @@ module _ (I : Instance) (P : Schedule) (t : ℕ) where
   hold-turn blue k l e =
       file-turn k l (or-left (moveTurns I P t k || turns (holdOf I P blue k) t) (turns (holdOf I P red k) t) (or-right (moveTurns I P t k) _ e))
   hold-turn red k l e = file-turn k l (or-right (moveTurns I P t k || turns (holdOf I P blue k) t) _ e)
+
+  pub work-turn : (c : Colour) (i : ℕ) → i < taskCount I → turns (workOf I P c i) t ≡ true → isTurn I P t ≡ true
+  work-turn blue i l e =
+      task-turn i l (or-left (runTurns I P t i || turns (workOf I P blue i) t) (turns (workOf I P red i) t) (or-right (runTurns I P t i) _ e))
+  work-turn red i l e = task-turn i l (or-right (runTurns I P t i || turns (workOf I P blue i) t) _ e)
 
 -- a hold that covers tick 0 starts there
 covers-start : (h : Hold) → covers h 0 ≡ true → turns h 0 ≡ true
@@ -58,21 +66,40 @@ covers-start (since a) e = eq-eqb a 0 (omega (arith, leb-true a 0 e))
 -- ---- the first faulty tick is one at which something starts or ends
 
 module _ (I : Instance) (P : Schedule) where
+  -- of holds of which something is held at tick 0, one starts there
+  covered : (n : ℕ) (hold : ℕ → Hold) (size : ℕ → ℕ) → 0 < sumWhere n (λ k. covers (hold k) 0) size → (k : ℕ) × (k < n) × (turns (hold k) 0 ≡ true)
+  covered n hold size l =
+      let z : sumBelow n (λ k. 0) ≡ 0 = sum-zero n (λ k. 0) (λ k a. refl) in
+      let r = sum-less n (λ k. 0) (λ k. cond (covers (hold k) 0) (size k) 0) (omega arith) in (
+        r .0,
+        r .1,
+        split (covers (hold (r .0)) 0)
+            (covers-start (hold (r .0)))
+            (λ e. absurd (let m : 0 < 0 = rw e at (r .2) in omega arith)),
+      )
+
+  files-start : (c : Colour) → 0 < filesHeld I P c 0 → isTurn I P 0 ≡ true
+  unfolding filesHeld
+  files-start c l = let r = covered (fileCount I) (holdOf I P c) (sizeAt I) l in hold-turn I P 0 c (r .0) (r .1) (r .2)
+
+  work-start : (c : Colour) → 0 < workHeld I P c 0 → isTurn I P 0 ≡ true
+  unfolding workHeld
+  work-start c l = let r = covered (taskCount I) (workOf I P c) (workAt I) l in work-turn I P 0 c (r .0) (r .1) (r .2)
+
   -- what is held at tick 0 starts there
   held-start : (c : Colour) → 0 < held I P c 0 → isTurn I P 0 ≡ true
   unfolding held
-  held-start c l =
-      let n = fileCount I in
-      let z : sumBelow n (λ k. 0) ≡ 0 = sum-zero n (λ k. 0) (λ k a. refl) in
-      let r = sum-less n (λ k. 0) (λ k. cond (isHeld I P c 0 k) (sizeAt I k) 0) (omega arith) in
-      split (isHeld I P c 0 (r .0))
-      (λ e. hold-turn I P 0 c (r .0) (r .1) (covers-start (holdOf I P c (r .0)) e))
-      (λ e. absurd (let m : 0 < 0 = rw e at (r .2) in omega arith))
+  held-start c l = elim (decLe (filesHeld I P c 0) 0) [ yes h ↦ work-start c (omega arith) | no h ↦ files-start c (omega arith) ]
 
   -- a memory holds what it held
   held-still : (c : Colour) (t : ℕ) → isTurn I P (suc t) ≡ false → held I P c (suc t) ≡ held I P c t
-  unfolding held
-  held-still c t e = sum-cong (fileCount I) _ _ (λ k l. ap (λ x. cond x (sizeAt I k) 0) (stillLaw I P t e .1 c k l))
+  unfolding held filesHeld workHeld
+  held-still c t e =
+      let f : filesHeld I P c (suc t) ≡ filesHeld I P c t =
+      sum-cong (fileCount I) _ _ (λ k l. ap (λ x. cond x (sizeAt I k) 0) (stillLaw I P t e .1 c k l)) in
+      let w : workHeld I P c (suc t) ≡ workHeld I P c t =
+      sum-cong (taskCount I) _ _ (λ i l. ap (λ x. cond x (workAt I i) 0) (stillLaw I P t e .2 c i l)) in
+      rw (f, w)
 
   over-turn : (t : ℕ) → ((u : ℕ) → Faulty I P u → t ≤ u) → OverLimit I P t → isTurn I P t ≡ true
   over-turn zero least o = held-start (o .memory) (omega (arith, o .more))

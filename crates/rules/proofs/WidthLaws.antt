@@ -9,10 +9,10 @@ use native.Mathlib.Omega.{arith}
 use lib.ListN.{length, getD}
 use Rattle.rules.specs.Limits.{maxDigits, former}
 use Rattle.rules.specs.Text.{ended, decimal, scanBy, scan, fill}
-use Rattle.rules.specs.FinerTicks.{OneOf, first, second, third, LongNumber}
+use Rattle.rules.specs.FinerTicks.{OneOf, LongNumber}
 use Rattle.rules.proofs.Tests.{by-order}
 use Rattle.rules.proofs.NumeralLaws.{decimal-long, decimal-longer}
-use Rattle.rules.proofs.FormLaws.{good, Numerals, scan-fill, scan-only, none-some}
+use Rattle.rules.proofs.FormLaws.{numbers, good, Numerals, scan-fill, scan-only, none-some}
 
 abbrev pub formerDigits : ℕ
 formerDigits = former .digits
@@ -82,32 +82,75 @@ module _ (form l : List ℕ) (g : good form ≡ true) where
                 (record { bytes = l; isEnded = refl; numbers = vs; hasForm = e; which = n .0; long = n .1 })
           ]
 
--- ---- three forms, of which a line has at most one
+-- ---- forms of which a line has at most one
 
-abbrev Others : List ℕ → List ℕ → Type 0
-Others form other = (vs : List ℕ) → scanBy formerDigits other (fill form vs) ≡ none
+-- no line has both forms
+abbrev pub Exclusive : List ℕ → List ℕ → Type 0
+Exclusive f g = (l vs ws : List ℕ) → scan f l ≡ some vs → scan g l ≡ some ws → ⊥
 
--- what the former widths read of a line by three forms: what is read now; or nothing, and one of them has a number too long
-pub data Agree (f g h l : List ℕ) : Type 0 where
-  agree : scanBy formerDigits f l ≡ scan f l → scanBy formerDigits g l ≡ scan g l → scanBy formerDigits h l ≡ scan h l → Agree f g h l
-  tooLong : scanBy formerDigits f l ≡ none → scanBy formerDigits g l ≡ none → scanBy formerDigits h l ≡ none
-      → (form : List ℕ) → OneOf f g h form → LongNumber form (ended l) → Agree f g h l
+-- as where the one, filled in, is not read by the other
+pub exclusive : (f g : List ℕ) → ((vs : List ℕ) → length vs ≡ numbers f → Numerals maxDigits vs → scan g (fill f vs) ≡ none) → Exclusive f g
+exclusive f g h l vs ws e q =
+    let x = scan-only maxDigits (omega arith) f l vs e in
+    none-some (sym (h vs (x .count) (x .numerals)) ∙ rw (x .line) at q)
 
-no-other : (form other l : List ℕ) → Others form other → LongNumber form (ended l) → scanBy formerDigits other l ≡ none
-no-other form other l o x =
-    let e : x .bytes ≡ l = cc (x .isEnded) in
-    let f = scan-only maxDigits (omega arith) form (x .bytes) (x .numbers) (x .hasForm) in
-    rw (← e, f .line) (o (x .numbers))
+pub reversed : (f g : List ℕ) → Exclusive f g → Exclusive g f
+reversed f g x l vs ws e q = x l ws vs q e
 
-module _ (f g h l : List ℕ) (good-f : good f ≡ true) (good-g : good g ≡ true) (good-h : good h ≡ true) where
-  pub agreed : Others f g → Others f h → Others g f → Others g h → Others h f → Others h g → Agree f g h l
-  agreed fg fh gf gh hf hg = elim (widened f l good-f) [
-    | longer n x ↦ tooLong n (no-other f g l fg x) (no-other f h l fh x) f first x
-    | alike a ↦ elim (widened g l good-g) [
-      | longer n x ↦ tooLong (no-other g f l gf x) n (no-other g h l gh x) g second x
-      | alike b ↦ elim (widened h l good-h) [
-        | longer n x ↦ tooLong (no-other h f l hf x) (no-other h g l hg x) n h third x
-        | alike c ↦ agree a b c
-      ]
+abbrev pub GoodForms : List (List ℕ) → Type 0
+GoodForms [] = Unit {0}
+GoodForms (f ∷ fs) = (good f ≡ true) × GoodForms fs
+
+-- the first of some forms excludes each of these
+abbrev pub Excludes : List ℕ → List (List ℕ) → Type 0
+Excludes f [] = Unit {0}
+Excludes f (g ∷ gs) = Exclusive f g × Excludes f gs
+
+abbrev pub Exclusives : List (List ℕ) → Type 0
+Exclusives [] = Unit {0}
+Exclusives (f ∷ fs) = Excludes f fs × Exclusives fs
+
+-- each form reads a line by the former widths as it does now
+abbrev pub Alike : List ℕ → List (List ℕ) → Type 0
+Alike l [] = Unit {0}
+Alike l (f ∷ fs) = (scanBy formerDigits f l ≡ scan f l) × Alike l fs
+
+-- none reads it by the former widths
+abbrev pub Unread : List ℕ → List (List ℕ) → Type 0
+Unread l [] = Unit {0}
+Unread l (f ∷ fs) = (scanBy formerDigits f l ≡ none) × Unread l fs
+
+-- what the former widths read of a line by some forms: what is read now; or nothing, and one of them has a number too long
+pub data Agree (fs : List (List ℕ)) (l : List ℕ) : Type 0 where
+  agree : Alike l fs → Agree fs l
+  tooLong : Unread l fs → (form : List ℕ) → OneOf fs form → LongNumber form (ended l) → Agree fs l
+
+module _ (l : List ℕ) where
+  -- a form that excludes one that the line has now
+  no-other : (f g : List ℕ) → good f ≡ true → Exclusive f g → LongNumber g (ended l) → scanBy formerDigits f l ≡ none
+  no-other f g good-f x y = go (scanBy formerDigits f l) refl
+    where
+      go : (o : Option (List ℕ)) → scanBy formerDigits f l ≡ o → scanBy formerDigits f l ≡ none
+      go none q = q
+      go (some ws) q =
+          let e : y .bytes ≡ l = cc (y .isEnded) in
+          absurd (x l ws (y .numbers) (reads-on f l ws good-f q) (rw e at (y .hasForm)))
+
+  unread : (f : List ℕ) (gs : List (List ℕ)) → GoodForms gs → Excludes f gs → LongNumber f (ended l) → Unread l gs
+  unread f [] g x y = tt
+  unread f (h ∷ hs) g x y = (no-other h f (g .0) (reversed f h (x .0)) y, unread f hs (g .1) (x .1) y)
+
+  excluded : (f : List ℕ) (gs : List (List ℕ)) (form : List ℕ) → Excludes f gs → OneOf gs form → Exclusive f form
+  excluded f [] form x o = absurd o
+  excluded f (h ∷ hs) form x (inl e) = rw e (x .0)
+  excluded f (h ∷ hs) form x (inr o) = excluded f hs form (x .1) o
+
+  pub agreed : (fs : List (List ℕ)) → GoodForms fs → Exclusives fs → Agree fs l
+  agreed [] g x = agree tt
+  agreed (f ∷ fs) g x = elim (widened f l (g .0)) [
+    | longer n y ↦ tooLong (n, unread f fs (g .1) (x .0) y) f (inl refl) y
+    | alike a ↦ elim (agreed fs (g .1) (x .1)) [
+      | agree bs ↦ agree (a, bs)
+      | tooLong ns form o y ↦ tooLong (no-other f form (g .0) (excluded f fs form (x .0) o) y, ns) form (inr o) y
     ]
   ]

@@ -5,14 +5,14 @@ use mathlib.Core.Bool.{true}
 use mathlib.Core.Path.{_≡_}
 use mathlib.Core.Logic.{_↔_, _⊎_}
 use mathlib.Core.Option.{some}
-use mathlib.Core.List.{List, []}
+use mathlib.Core.List.{List, [], _∷_}
 use lib.ListN.{length, getD}
 use Rattle.rules.specs.Limits.{maxDigits, runTimes, moveTimes, ticks, former}
 use Rattle.rules.specs.Model.{Colour, Task, timeOn, Instance, taskCount, fileCount, Schedule}
 use Rattle.rules.specs.Validity.{Claim, Verdict, acceptedWith, refusedBy, makespan, trueClaim}
 use Rattle.rules.specs.Scheduling.{Planner, complete, outcome}
 use Rattle.rules.specs.Text.{Line, ended, unended, linesOf, digitsOf, numeral, valueFrom, decimal, scan, right}
-use Rattle.rules.specs.InstanceText.{boardForm, taskForm, fileForm, taskLine, fileLine, instanceLine}
+use Rattle.rules.specs.InstanceText.{boardForm, taskForm, workForm, fileForm, taskLine, fileLine, instanceLine}
 use Rattle.rules.specs.ScheduleText.{runForm, moveForm, claimForm}
 use Rattle.rules.specs.Calls.{markBy, mark, Answer, planText, planBy, plan}
 use Rattle.rules.specs.Simulation.{Simulation, simulateBy, simulate}
@@ -31,10 +31,17 @@ NumberLaw = (l : List ℕ) (n : ℕ) → ((numeral (digitsOf l) ≡ true) × (va
 abbrev pub lineBehind : List ℕ → ℕ → Line
 lineBehind text n = getD (linesOf text) n (unended [])
 
-pub data OneOf (a b c : List ℕ) : List ℕ → Type 0 where
-  first : OneOf a b c a
-  second : OneOf a b c b
-  third : OneOf a b c c
+-- the forms of a board sheet's lines, and of a timetable's
+abbrev pub sheetForms : List (List ℕ)
+sheetForms = boardForm ∷ taskForm ∷ workForm ∷ fileForm ∷ []
+
+abbrev pub timetableForms : List (List ℕ)
+timetableForms = runForm ∷ moveForm ∷ claimForm ∷ []
+
+-- a form is one of these
+abbrev pub OneOf : List (List ℕ) → List ℕ → Type 0
+OneOf [] form = ⊥
+OneOf (f ∷ fs) form = (form ≡ f) ⊎ OneOf fs form
 
 -- a line has its LF and a form, with a number that is too long by the former widths
 pub record LongNumber (form : List ℕ) (l : Line) : Type 0 where
@@ -48,13 +55,13 @@ pub record LongNumber (form : List ℕ) (l : Line) : Type 0 where
 -- a mark by the former widths that refuses a line for a number too long (2 and 12: the line has its form, by the widths now) or too large
 -- (3: the line is readable now). 13 is not among them: no start, move or claim of nine digits was too large
 pub data RefusedForWidth (sheet timetable : List ℕ) : Verdict → Type 0 where
-  longInSheet : (n : ℕ) (form : List ℕ) → OneOf boardForm taskForm fileForm form → LongNumber form (lineBehind sheet n)
+  longInSheet : (n : ℕ) (form : List ℕ) → OneOf sheetForms form → LongNumber form (lineBehind sheet n)
       → RefusedForWidth sheet timetable (refusedBy 2 (suc n))
   largeRunTime : (n i : ℕ) (a : Task) (c : Colour) → instanceLine (lineBehind sheet n) ≡ right (taskLine i a) → former .runTimes .most < timeOn c a
       → RefusedForWidth sheet timetable (refusedBy 3 (suc n))
   largeMoveTime : (n i j f c : ℕ) → instanceLine (lineBehind sheet n) ≡ right (fileLine i j f c) → former .moveTimes .most < c
       → RefusedForWidth sheet timetable (refusedBy 3 (suc n))
-  longInTimetable : (n : ℕ) (form : List ℕ) → OneOf runForm moveForm claimForm form → LongNumber form (lineBehind timetable n)
+  longInTimetable : (n : ℕ) (form : List ℕ) → OneOf timetableForms form → LongNumber form (lineBehind timetable n)
       → RefusedForWidth sheet timetable (refusedBy 12 (suc n))
 
 -- the mark v of a sheet and a timetable is the one that the former widths give, or that one refuses a line for a number too long or too large

@@ -5,7 +5,7 @@ use mathlib.Core.Path.{_≡_}
 use mathlib.Core.Logic.{_↔_}
 use mathlib.Core.Option.{some}
 use Rattle.rules.specs.Count.{sumWhere}
-use Rattle.rules.specs.Model.{Colour, blue, red, sameColour, Instance, limitOf, taskCount, taskAt, fileAt, fileCount, sizeAt, timeOn}
+use Rattle.rules.specs.Model.{Colour, blue, red, sameColour, Instance, limitOf, taskCount, taskAt, fileAt, fileCount, sizeAt, timeOn, NoWork}
 use Rattle.rules.specs.Model.{isPlaced, Schedule, runAt, startAt, moveAt, colourOf, finishOf, crosses, finishAt, makerRun, readerRun, moveEnd}
 use Rattle.rules.specs.Residency.{Hold, never, openHold, closedHold, covers, held}
 use Rattle.rules.specs.Validity.{Claim, Occupies, ShareInstant, AllOnTime, Greatest, Valid, ReadsLate, refusedBy, judge}
@@ -92,22 +92,22 @@ SheetTakesTime = (I : Instance) → ((c : Colour) (i : ℕ) → i < taskCount I 
 -- what is held at each instant, of partial schedules too.
 -- Not: each run's inputs kept one tick longer; the inputs of a run of time 1 kept until s + 2
 abbrev pub FormerHeldLaw : Type 0
-FormerHeldLaw = (I : Instance) → WellFormed I → (P : Schedule) → RunsTakeTime I P → (c : Colour) (t : ℕ) → held I P c t ≡ formerHeld I P c t
+FormerHeldLaw = (I : Instance) → WellFormed I → NoWork I → (P : Schedule) → RunsTakeTime I P → (c : Colour) (t : ℕ) → held I P c t ≡ formerHeld I P c t
 
 -- starts 3 and 4: the first tick from which on always `need` is free.
 -- Not: a task that waits one tick more for what the runs before it read
 abbrev pub FormerFreeLaw : Type 0
 FormerFreeLaw =
-    (I : Instance) → WellFormed I → (P : Schedule) → RunsTakeTime I P → (c : Colour) (need t : ℕ) →
+    (I : Instance) → WellFormed I → NoWork I → (P : Schedule) → RunsTakeTime I P → (c : Colour) (need t : ℕ) →
     (freeFrom I P c need ≡ some t) ↔ First (λ s. (u : ℕ) → s ≤ u → formerHeld I P c u + need ≤ limitOf I c) t
 
 -- of the timetables that the due lines can spell the same are valid.
 -- Not: one refused in which a run starts at another's finish
 abbrev pub FormerValidLaw : Type 0
 FormerValidLaw =
-    (I : Instance) → WellFormed I → (P : Schedule) (claim : Claim) → Spellable I P claim → RunsTakeTime I P → Valid I P claim ↔ FormerValid I P claim
+    (I : Instance) → WellFormed I → NoWork I → (P : Schedule) (claim : Claim) → Spellable I P claim → RunsTakeTime I P → Valid I P claim ↔ FormerValid I P claim
 
 -- and the others are refused by the same number at the same place.
 -- Not: 17 one tick later; another of two tasks named
 abbrev pub FormerPlaceLaw : Type 0
-FormerPlaceLaw = (I : Instance) → WellFormed I → (P : Schedule) (claim : Claim) → Spellable I P claim → RunsTakeTime I P → FormerPlaces I P claim
+FormerPlaceLaw = (I : Instance) → WellFormed I → NoWork I → (P : Schedule) (claim : Claim) → Spellable I P claim → RunsTakeTime I P → FormerPlaces I P claim

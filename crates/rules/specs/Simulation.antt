@@ -1,13 +1,13 @@
--- The simulator of Order 3: what the board does at each tick, the ticks of its steps, and where it stops.
+-- The simulator of Order 3, with Order 6: what the board does at each tick, the ticks of its steps, and where it stops.
 use Prim.Native.Nat.{ℕ, zero, suc, _+_, max, min}
 use mathlib.Core.Bool.{Bool, true, false, cond, _&&_, _||_}
 use mathlib.Core.List.{List}
 use lib.ListN.{length, getD, replicate}
 use lib.Dec.{leb, ltb, eqb}
 use Rattle.rules.specs.Count.{anyBelow, firstBelow, listBelow, listWhere}
-use Rattle.rules.specs.Limits.{maxFiles, allProcessors, maxSteps, Widths, current}
+use Rattle.rules.specs.Limits.{maxFiles, allProcessors, maxSteps, TextRules, current}
 use Rattle.rules.specs.Model.{blue, red, Instance, taskCount, fileAt, fileCount, Schedule, runAt, startAt, finishAt, moveAt, moved, madeAt, moveEnd}
-use Rattle.rules.specs.Residency.{Hold, never, during, since, holdOf, isHeld, horizon}
+use Rattle.rules.specs.Residency.{Hold, never, during, since, holdOf, workOf, isHeld, horizon}
 use Rattle.rules.specs.Validity.{overlap, over, makespan}
 use Rattle.rules.specs.Text.{inSheet, inTimetable, faultNumber}
 use Rattle.rules.specs.InstanceText.{refused, accepted, readInstanceBy}
@@ -66,6 +66,10 @@ turns (since from) t = eqb from t
 abbrev pub runTurns : Instance → Schedule → ℕ → ℕ → Bool
 runTurns I P t i = eqb (startAt P i) t || eqb (finishAt I P i) t
 
+-- its run, or the hold of its working memory
+abbrev pub taskTurns : Instance → Schedule → ℕ → ℕ → Bool
+taskTurns I P t i = runTurns I P t i || turns (workOf I P blue i) t || turns (workOf I P red i) t
+
 -- file k's move starts or ends at tick t
 abbrev pub moveTurns : Instance → Schedule → ℕ → ℕ → Bool
 moveTurns I P t k = moved I P k && (eqb (moveAt P k) t || eqb (moveEnd I P k) t)
@@ -76,7 +80,7 @@ fileTurns I P t k = moveTurns I P t k || turns (holdOf I P blue k) t || turns (h
 
 -- a run, a move or a hold starts or ends at tick t
 unfoldable pub isTurn : Instance → Schedule → ℕ → Bool
-isTurn I P t = anyBelow (taskCount I) (runTurns I P t) || anyBelow (fileCount I) (fileTurns I P t)
+isTurn I P t = anyBelow (taskCount I) (taskTurns I P t) || anyBelow (fileCount I) (fileTurns I P t)
 
 -- ---- the faults
 
@@ -203,14 +207,14 @@ abbrev pub simulateRead : Instance → ScheduleRead → ℕ → ℕ → Simulati
 simulateRead I (refusedTimetable w k) made steps = refusedText (faultNumber inTimetable w) k
 simulateRead I (read P c) made steps = watch I P (made + min steps maxSteps)
 
-abbrev pub simulateOnBy : Widths → Instance → List ℕ → ℕ → ℕ → Simulation
+abbrev pub simulateOnBy : TextRules → Instance → List ℕ → ℕ → ℕ → Simulation
 simulateOnBy L I timetable made steps = simulateRead I (readScheduleBy L I timetable) made steps
 
 abbrev pub simulateOn : Instance → List ℕ → ℕ → ℕ → Simulation
 simulateOn = simulateOnBy current
 
 -- the simulator: on a board sheet and a timetable, so many steps from the steps already made
-unfoldable pub simulateBy : Widths → List ℕ → List ℕ → ℕ → ℕ → Simulation
+unfoldable pub simulateBy : TextRules → List ℕ → List ℕ → ℕ → ℕ → Simulation
 simulateBy L sheet timetable made steps =
     elim (readInstanceBy L sheet) [
       | refused w k ↦ refusedText (faultNumber inSheet w) k

@@ -1,4 +1,4 @@
--- The simulator on the course example of document 01, with and without one line changed, and on a relay: one table, and one fact about its rows.
+-- The simulator on the course example of document 01, with and without one line changed, on relays and on working memory: one table, and one fact about its rows.
 use Prim.Native.Nat.{ℕ}
 use Prim.Native.String.{String}
 use mathlib.Core.Bool.{Bool, true, false, _&&_}
@@ -7,7 +7,7 @@ use lib.ListN.{length}
 use lib.Dec.{T, eqb}
 use Rattle.rules.specs.Count.{sumBelow, maxBelow, anyBelow, firstBelow, listBelow, listWhere}
 use Rattle.rules.specs.Limits.{allProcessors, maxFiles}
-use Rattle.rules.specs.Residency.{holdBy, held, horizon}
+use Rattle.rules.specs.Residency.{holdBy, workBy, filesHeld, workHeld, held, filesHorizon, workHorizon, horizon}
 use Rattle.rules.specs.Text.{ascii, linesOf, digitsOf, decimalBy, decimal, scanBy, fill}
 use Rattle.rules.specs.InstanceText.{instanceLineBy, readRestBy, readLinesBy, readInstanceBy}
 use Rattle.rules.specs.ScheduleText.{scheduleLineBy, readEndBy, readClaimBy, readMovesBy, readRunsBy, readScheduleBy}
@@ -41,7 +41,7 @@ sameProgress a b = eqb (numberOf a) (numberOf b) && eqb (placeOf a) (placeOf b) 
 pub holds : Row → Bool
 unfolding isFilled sameProgress
     sumBelow maxBelow anyBelow firstBelow listBelow listWhere
-    holdBy held horizon overlap over makespan
+    holdBy workBy filesHeld workHeld held filesHorizon workHorizon horizon overlap over makespan
     linesOf digitsOf decimalBy decimal scanBy fill
     instanceLineBy readRestBy readLinesBy readInstanceBy
     scheduleLineBy readEndBy readClaimBy readMovesBy readRunsBy readScheduleBy
@@ -127,6 +127,10 @@ table =
     -- the first faulty tick decides: over a limit at 0, though two runs share an instant at 3, for which the marker refuses
     ∷ row (ascii "(board (blue 1 1) (red 1 9))\n(task 1 2 2)\n(task 2 4 2)\n(task 3 2 2)\n(file 1 2 2 1)\n")
     (ascii "(run 1 1 0)\n(run 2 1 2)\n(run 3 1 3)\n(claim 6 2 0)\n") 0 9 (stopped 17 0) 0 0 [] []
+    -- working memory is not shown; that of a relay is held until the tick after its start, which is a step; over a limit it stops
+    ∷ row (ascii "(board (blue 1 9) (red 1 9))\n(task 1 0 0 3)\n") (ascii "(run 1 1 4)\n(claim 4 3 0)\n") 0 1 stepsLeft 1 4 [] []
+    ∷ row (ascii "(board (blue 1 9) (red 1 9))\n(task 1 0 0 3)\n") (ascii "(run 1 1 4)\n(claim 4 3 0)\n") 0 2 (ended 4) 2 5 [] []
+    ∷ row (ascii "(board (blue 1 2) (red 1 9))\n(task 1 0 0 3)\n") (ascii "(run 1 1 4)\n(claim 4 3 0)\n") 0 1 (stopped 17 4) 0 0 [] []
     ∷ []
 
 pub examples : T (allHold table)
