@@ -15,7 +15,7 @@ use model::layout;
 use model::layout::Shape;
 use model::residency::Hold;
 use model::residency::finish;
-use model::residency::held_at;
+use model::totals::held_at;
 use model::residency::hold_of;
 
 // The greatest finish: document 01's span.

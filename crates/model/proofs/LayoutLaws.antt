@@ -6,10 +6,10 @@ use native.Mathlib.Omega.{arith}
 use lib.Dec.{eqb}
 use borrow.Author.Tests.{le-leb, lt-leb}
 use lib.ListN.{getD}
-use Rattle.rules.specs.Model.{blue, red, Instance, Task, fileAt, fileCount, taskAt, taskCount, limitOf, sideOf, timeOn, sizeAt, moveTimeAt}
+use Rattle.rules.specs.Model.{blue, red, Instance, Task, fileAt, fileCount, taskAt, taskCount, limitOf, sideOf, timeOn, workAt, sizeAt, moveTimeAt}
 use Rattle.rules.specs.Model.{runAt, startAt, moveAt, colourOf, finishAt}
 use Rattle.rules.specs.Scheduling.{reads, makes, finishOn}
-use Rattle.rules.specs.Limits.{processorCounts, runTimes}
+use Rattle.rules.specs.Limits.{processorCounts, runTimes, workSizes}
 use Rattle.rules.specs.Promises.{In, WellFormed}
 use Rattle.rules.proofs.CountLaws.{length-listBelow, getD-listBelow}
 use Rattle.model.specs.declared.layout.Shape.{Shape}
@@ -40,6 +40,9 @@ module _ (b : Shape) (J : Job) where
   pub task-at : (i : ℕ) → i < b .tasks → taskAt (instanceFrom b J) i ≡ taskFrom J i
   unfolding instanceFrom
   task-at i h = getD-listBelow (b .tasks) (taskFrom J) i _ h
+
+  pub work-at : (i : ℕ) → i < b .tasks → workAt (instanceFrom b J) i ≡ J .work i
+  work-at i h = ap (λ a. a .work) (task-at i h)
 
   pub limit-of : (c : Colour) → limitOf (instanceFrom b J) (asColour c) ≡ byColour c (b .board .blue .limit) (b .board .red .limit)
   unfolding instanceFrom
@@ -140,6 +143,9 @@ module _ (b : Shape) (J : Job) (w : WellFormed (instanceFrom b J)) where
   red-time : (i : ℕ) → i < b .tasks → J .onRed i ≤ runTimes .most
   red-time i h = omega (arith, w .times red i (task-in h) .most, ap (λ a. a .onRed) (task-at b J i h))
 
+  work-in : (i : ℕ) → i < b .tasks → J .work i ≤ workSizes .most
+  work-in i h = omega (arith, w .work i (task-in h), work-at b J i h)
+
   pub job-bounds : JobBounds b J
   job-bounds = record {
     tasks = omega (arith, task-count b J, w .tasks .most);
@@ -149,6 +155,7 @@ module _ (b : Shape) (J : Job) (w : WellFormed (instanceFrom b J)) where
     redLimit = omega (arith, limit-of b J Red, w .limits red .most);
     onBlue = blue-time;
     onRed = red-time;
+    work = work-in;
     maker = λ k h. omega (arith, w .ordered k (file-in h), w .exists k (file-in h), maker-at b J k h, reader-at b J k h, task-count b J);
     reader = λ k h. omega (arith, w .exists k (file-in h), reader-at b J k h, task-count b J);
     size = λ k h. omega (arith, w .sizes k (file-in h) .most, size-at b J k h);

@@ -12,7 +12,9 @@ pub mod WriteLaws
 pub mod CrossingLaws
 -- what the two runs of a file imply: its times and its hold
 pub mod FileLaws
--- the loops over the files
+-- a task's run, and the hold of its working memory
+pub mod WorkLaws
+-- the loops over the files and the tasks
 pub mod ResidencyLoops
 -- the arrays of a schedule that the due lines can spell
 pub mod SpelledLaws

@@ -15,7 +15,7 @@ use Rattle.rules.specs.InstanceText.{withTask, withFile}
 use Rattle.rules.proofs.CountLaws.{list-cong}
 use Rattle.model.specs.declared.layout.Shape.{Shape}
 use Rattle.model.specs.Layout.{jobOf, entriesOf, taskFrom, fileFrom, runFrom, instanceFrom, jobLength, scheduleLength, withTaskAt, withFileAt, withRunAt}
-use Rattle.model.specs.Layout.{withMoveAt, makerPlace, readerPlace, sizePlace, moveTimePlace, moveStartPlace}
+use Rattle.model.specs.Layout.{withMoveAt, workPlace, makerPlace, readerPlace, sizePlace, moveTimePlace, moveStartPlace}
 
 -- a list by index, with one element more
 list-next : {A : Type 0} (n : ℕ) (f g : ℕ → A) (a : A) → ((k : ℕ) → k < n → f k ≡ g k) → f n ≡ a → listBelow (suc n) f ≡ listBelow n g ++ (a ∷ [])
@@ -39,7 +39,7 @@ module _ (xs : List ℕ) (p q a b : ℕ) where
   both-second : q < length xs → getD both q 0 ≡ b
   both-second h = getD-set-same (set xs p a) q b 0 (omega (arith, length-set xs p a))
 
--- ---- the two numbers of a task, or of a run
+-- ---- the two times of a task, or the two numbers of a run
 module _ (xs : List ℕ) {i : ℕ} (h : i < maxTasks) (a b : ℕ) where
   pair-here : 2 * maxTasks ≤ length xs → (getD (withRunAt xs i a b) i 0 ≡ a) × (getD (withRunAt xs i a b) (maxTasks + i) 0 ≡ b)
   pair-here long = (both-first xs i (maxTasks + i) a b (omega arith) (omega arith), both-second xs i (maxTasks + i) a b (omega arith))
@@ -54,20 +54,6 @@ module _ (xs : List ℕ) {i : ℕ} (h : i < maxTasks) (a b : ℕ) where
   pair-behind : (j : ℕ) → 2 * maxTasks ≤ j → getD (withRunAt xs i a b) j 0 ≡ getD xs j 0
   pair-behind j l = both-other xs i (maxTasks + i) a b (omega arith) (omega arith)
 
-  task-here : length xs ≡ jobLength → taskFrom (jobOf (withTaskAt xs i a b)) i ≡ record { onBlue = a; onRed = b }
-  task-here long = let e = pair-here (omega arith) in rw (e .0, e .1)
-
-  task-other : (j : ℕ) → j < maxTasks → j ≢ i → taskFrom (jobOf (withTaskAt xs i a b)) j ≡ taskFrom (jobOf xs) j
-  task-other j l d = let e = pair-other j l d in rw (e .0, e .1)
-
-  task-files : (k : ℕ) → fileFrom (jobOf (withTaskAt xs i a b)) k ≡ fileFrom (jobOf xs) k
-  task-files k = rw (
-    pair-behind (makerPlace k) (omega arith),
-    pair-behind (readerPlace k) (omega arith),
-    pair-behind (sizePlace k) (omega arith),
-    pair-behind (moveTimePlace k) (omega arith),
-  )
-
   pub run-here : length xs ≡ scheduleLength → runFrom (entriesOf (withRunAt xs i a b)) i ≡ record { processor = a; start = b }
   run-here long = let e = pair-here (omega arith) in rw (e .0, e .1)
 
@@ -76,6 +62,39 @@ module _ (xs : List ℕ) {i : ℕ} (h : i < maxTasks) (a b : ℕ) where
 
   pub run-moves : (k : ℕ) → entriesOf (withRunAt xs i a b) .moveStart k ≡ entriesOf xs .moveStart k
   run-moves k = pair-behind (moveStartPlace k) (omega arith)
+
+-- ---- the three numbers of a task
+module _ (xs : List ℕ) {i : ℕ} (h : i < maxTasks) (a b w : ℕ) where
+  -- the third leaves all others as the first two do
+  work-kept : (j : ℕ) → j ≢ workPlace i → getD (withTaskAt xs i a b w) j 0 ≡ getD (withRunAt xs i a b) j 0
+  work-kept j d = getD-set-other (withRunAt xs i a b) (workPlace i) j w 0 d
+
+  work-here : length xs ≡ jobLength → getD (withTaskAt xs i a b w) (workPlace i) 0 ≡ w
+  work-here long = getD-set-same (withRunAt xs i a b) (workPlace i) w 0 (omega (arith, both-length xs i (maxTasks + i) a b))
+
+  task-here : length xs ≡ jobLength → taskFrom (jobOf (withTaskAt xs i a b w)) i ≡ record { onBlue = a; onRed = b; work = w }
+  task-here long =
+      let e = pair-here xs h a b (omega arith) in
+      rw (work-kept i (omega arith) ∙ e .0, work-kept (maxTasks + i) (omega arith) ∙ e .1, work-here long)
+
+  task-other : (j : ℕ) → j < maxTasks → j ≢ i → taskFrom (jobOf (withTaskAt xs i a b w)) j ≡ taskFrom (jobOf xs) j
+  task-other j l d =
+      let e = pair-other xs h a b j l d in rw (
+        work-kept j (omega arith) ∙ e .0,
+        work-kept (maxTasks + j) (omega arith) ∙ e .1,
+        work-kept (workPlace j) (λ q. d (omega arith)) ∙ pair-behind xs h a b (workPlace j) (omega arith),
+      )
+
+  file-behind : (j : ℕ) → 3 * maxTasks ≤ j → getD (withTaskAt xs i a b w) j 0 ≡ getD xs j 0
+  file-behind j l = work-kept j (omega arith) ∙ pair-behind xs h a b j (omega arith)
+
+  task-files : (k : ℕ) → fileFrom (jobOf (withTaskAt xs i a b w)) k ≡ fileFrom (jobOf xs) k
+  task-files k = rw (
+    file-behind (makerPlace k) (omega arith),
+    file-behind (readerPlace k) (omega arith),
+    file-behind (sizePlace k) (omega arith),
+    file-behind (moveTimePlace k) (omega arith),
+  )
 
 -- ---- a move start
 module _ (xs : List ℕ) {k : ℕ} (h : k < maxFiles) (t : ℕ) where
@@ -121,6 +140,7 @@ module _ (xs : List ℕ) {k : ℕ} (h : k < maxFiles) (m r s t : ℕ) where
   file-tasks i l = rw (
     file-kept i (omega arith) (omega arith) (omega arith) (omega arith),
     file-kept (maxTasks + i) (omega arith) (omega arith) (omega arith) (omega arith),
+    file-kept (workPlace i) (omega arith) (omega arith) (omega arith) (omega arith),
   )
 
 -- ---- the instance with one task, or one file, more
@@ -128,15 +148,15 @@ with-parts : Shape → List Task → List File → Instance
 with-parts b tasks files = record { blueSide = sideFrom (b .board .blue); redSide = sideFrom (b .board .red); tasks = tasks; files = files }
 
 module _ (b : Shape) (xs : List ℕ) (long : length xs ≡ jobLength) where
-  pub task-stored : b .tasks < maxTasks → (u v : ℕ)
-      → instanceFrom (record { tasks = b .tasks + 1; files = b .files; board = b .board }) (jobOf (withTaskAt xs (b .tasks) u v))
-      ≡ withTask (instanceFrom b (jobOf xs)) (record { onBlue = u; onRed = v })
+  pub task-stored : b .tasks < maxTasks → (u v w : ℕ)
+      → instanceFrom (record { tasks = b .tasks + 1; files = b .files; board = b .board }) (jobOf (withTaskAt xs (b .tasks) u v w))
+      ≡ withTask (instanceFrom b (jobOf xs)) (record { onBlue = u; onRed = v; work = w })
   unfolding instanceFrom with-parts
-  task-stored h u v =
+  task-stored h u v w =
       rw (add-one (b .tasks))
       (ap₂ (with-parts b)
-      (list-next (b .tasks) _ _ _ (λ i l. task-other xs h u v i (omega arith) (omega arith)) (task-here xs h u v long))
-      (list-cong (b .files) _ _ (λ k l. task-files xs h u v k)))
+      (list-next (b .tasks) _ _ _ (λ i l. task-other xs h u v w i (omega arith) (omega arith)) (task-here xs h u v w long))
+      (list-cong (b .files) _ _ (λ k l. task-files xs h u v w k)))
 
   pub file-stored : b .tasks ≤ maxTasks → b .files < maxFiles → (m r s t : ℕ)
       → instanceFrom (record { tasks = b .tasks; files = b .files + 1; board = b .board }) (jobOf (withFileAt xs (b .files) m r s t))

@@ -5,3 +5,4 @@ pub mod colour;
 pub mod crossing;
 pub mod layout;
 pub mod residency;
+pub mod totals;

@@ -13,9 +13,9 @@ use model::colour::by_colour;
 use model::layout;
 use model::layout::Shape;
 use model::residency::Hold;
-use model::residency::held_at;
+use model::totals::held_at;
 use model::residency::hold_of;
-use model::residency::horizon_of;
+use model::totals::horizon_of;
 
 // Memory aware, or plain: with starts 3 and 4 left out.
 pub enum Memory {

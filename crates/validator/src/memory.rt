@@ -15,8 +15,8 @@ use model::choice::select;
 use model::colour::Colour;
 use model::layout;
 use model::layout::Shape;
-use model::residency::held_at;
-use model::residency::horizon_of;
+use model::totals::held_at;
+use model::totals::horizon_of;
 
 // Whether a memory is over its limit at tick t.
 pub fn over_at<'a>(

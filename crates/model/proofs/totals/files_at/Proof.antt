@@ -1,4 +1,4 @@
--- `held_at` meets its contract. The invariant: the sum is that of the files passed.
+-- `files_at` meets its contract. The invariant: the sum is that of the files passed.
 use Prim.Native.Nat.{_≤_, _*_, _-_}
 use mathlib.Core.Path.{_≡_, sym}
 use native.Mathlib.Omega.{arith}
@@ -9,10 +9,10 @@ use Rattle.rules.specs.Residency.{isHeld}
 use Rattle.model.specs.Colours.{asColour}
 use Rattle.model.specs.Layout.{jobOf, entriesOf, instanceFrom, scheduleFrom}
 use Rattle.model.proofs.StepLaws.{sum-none}
-use Rattle.model.proofs.ResidencyLoops.{held-turn, held-total}
+use Rattle.model.proofs.ResidencyLoops.{files-turn, files-total}
 use borrow.Author.Needs.{needs}
-use Rattle.model.proofs.residency.held_at.Statement.{statement}
-use Rattle.model.proofs.residency.held_at.Tie as tie
+use Rattle.model.proofs.totals.files_at.Statement.{statement}
+use Rattle.model.proofs.totals.files_at.Tie as tie
 
 abbrev Inv-loop : tie.InvT-loop
 Inv-loop shape job schedule colour t sum₀ i₀ sum i =
@@ -61,17 +61,17 @@ loop-again c =
     omega (
       arith,
       s .pre .job .size (l .loop .i) h,
-      held-turn (s .pre) (asColour (s .args .colour)) h (s .args .t) (c .value-if .result) (z .size .result) (x .hold-of .result) (y .covers .result)
+      files-turn (s .pre) (asColour (s .args .colour)) h (s .args .t) (c .value-if .result) (z .size .result) (x .hold-of .result) (y .covers .result)
           (x .hold-of .ensures .0) (y .covers .ensures) (z .size .ensures) (c .value-if .ensures .0),
     )
 
 returns : tie.Need-returns Inv-loop μ-loop
 returns c =
     let s = c .before .before .before in
-    omega (arith, held-total (s .pre) (asColour (s .args .colour)) {n = c .before .before .loop .i} (omega arith) (s .args .t))
+    omega (arith, files-total (s .pre) (asColour (s .args .colour)) {n = c .before .before .loop .i} (omega arith) (s .args .t))
 
-pub held-at-spec : {M : Type 1} → statement M
-held-at-spec =
+pub files-at-spec : {M : Type 1} → statement M
+files-at-spec =
     tie.close
     (tie.spec
     Inv-loop

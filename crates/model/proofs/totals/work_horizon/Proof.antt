@@ -1,30 +1,30 @@
--- `horizon_of` meets its contract. The invariant: the greatest settled tick of the files passed.
+-- `work_horizon` meets its contract. The invariant: the greatest settled tick of the tasks passed.
 use Prim.Native.Nat.{_≤_, _-_}
 use mathlib.Core.Path.{_≡_, sym}
 use native.Mathlib.Omega.{arith}
 use Rattle.rules.specs.Count.{maxBelow}
-use Rattle.rules.specs.Residency.{settlesAt}
+use Rattle.rules.specs.Residency.{workSettlesAt}
 use Rattle.model.specs.Colours.{asColour}
 use Rattle.model.specs.Layout.{jobOf, entriesOf, instanceFrom, scheduleFrom, lastTick}
 use Rattle.model.proofs.StepLaws.{max-none}
-use Rattle.model.proofs.ResidencyLoops.{horizon-turn, horizon-total}
+use Rattle.model.proofs.ResidencyLoops.{work-horizon-turn, work-horizon-total}
 use borrow.Author.Needs.{needs}
-use Rattle.model.proofs.residency.horizon_of.Statement.{statement}
-use Rattle.model.proofs.residency.horizon_of.Tie as tie
+use Rattle.model.proofs.totals.work_horizon.Statement.{statement}
+use Rattle.model.proofs.totals.work_horizon.Tie as tie
 
 abbrev Inv-loop : tie.InvT-loop
 Inv-loop shape job schedule colour most₀ i₀ most i =
-    (i ≤ shape .files) × (most ≤ lastTick)
-    × (most ≡ maxBelow i (settlesAt (instanceFrom shape (jobOf job)) (scheduleFrom shape (entriesOf schedule)) (asColour colour)))
+    (i ≤ shape .tasks) × (most ≤ lastTick)
+    × (most ≡ maxBelow i (workSettlesAt (instanceFrom shape (jobOf job)) (scheduleFrom shape (entriesOf schedule)) (asColour colour)))
 
 abbrev μ-loop : tie.MeasureT-loop
-μ-loop shape job schedule colour most₀ i₀ most i = shape .files - i
+μ-loop shape job schedule colour most₀ i₀ most i = shape .tasks - i
 
 loop-holds : tie.Need-loop-holds Inv-loop μ-loop
 loop-holds c = (omega arith, omega arith, sym (max-none _))
 
-hold-of-requires : tie.Need-hold-of-requires Inv-loop μ-loop
-hold-of-requires c κs = search needs
+work-hold-requires : tie.Need-work-hold-requires Inv-loop μ-loop
+work-hold-requires c κs = search needs
 
 settles-requires : tie.Need-settles-requires Inv-loop μ-loop
 settles-requires c κs = search needs
@@ -46,22 +46,22 @@ loop-again c =
     let h = x .before .if1 .taken in
     omega (
       arith,
-      horizon-turn (s .pre) (asColour (s .args .colour)) h (z .settles .result) (x .hold-of .result) (x .hold-of .ensures .0) (z .settles .ensures),
+      work-horizon-turn (s .pre) (asColour (s .args .colour)) h (z .settles .result) (x .work-hold .result) (x .work-hold .ensures .0) (z .settles .ensures),
     )
 
 returns : tie.Need-returns Inv-loop μ-loop
 returns c =
     let s = c .before .before .before in
-    omega (arith, horizon-total (s .pre) (asColour (s .args .colour)) {n = c .before .before .loop .i} (omega arith))
+    omega (arith, work-horizon-total (s .pre) (asColour (s .args .colour)) {n = c .before .before .loop .i} (omega arith))
 
-pub horizon-of-spec : {M : Type 1} → statement M
-horizon-of-spec =
+pub work-horizon-spec : {M : Type 1} → statement M
+work-horizon-spec =
     tie.close
     (tie.spec
     Inv-loop
     μ-loop
     loop-holds
-    hold-of-requires
+    work-hold-requires
     settles-requires
     greater-requires
     add-i
