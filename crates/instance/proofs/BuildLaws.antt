@@ -47,7 +47,7 @@ none-is-0 = ⊎-elim (λ e. omega arith) (⊎-elim (λ e. omega arith) (⊎-elim
 
 pub no-board : (l : Line) → OneOf (1 ∷ 2 ∷ 3 ∷ 4 ∷ []) (tagOf the-type l) → wrong (faultOf (asReading l)) ≡ due withBoard (asReading l)
 no-board (BoardLine b) h = absurd (none-is-0 h)
-no-board (TaskLine i b r) h = refl
+no-board (TaskLine i b r w) h = refl
 no-board (FileLine i j f c) h = refl
 no-board Malformed h = refl
 no-board OutOfRange h = refl
@@ -67,7 +67,7 @@ module _ (b : Shape) (J : Job) where
   pub neither : (l : Line) → OneOf (0 ∷ 2 ∷ 3 ∷ 4 ∷ []) (tagOf the-type l) → OneOf (0 ∷ 1 ∷ 3 ∷ 4 ∷ []) (tagOf the-type l)
       → wrong (faultOf (asReading l)) ≡ due (withLine I) (asReading l)
   neither (BoardLine b) g h = refl
-  neither (TaskLine i b r) g h = absurd (none-is-1 g)
+  neither (TaskLine i b r w) g h = absurd (none-is-1 g)
   neither (FileLine i j f c) g h = absurd (none-is-2 h)
   neither Malformed g h = refl
   neither OutOfRange g h = refl
@@ -106,10 +106,10 @@ module _ (b : Shape) (J : Job) where
 
 -- ---- what is taken
 module _ (b : Shape) (xs : List ℕ) (long : length xs ≡ jobLength) {ys : List ℕ} where
-  pub task-taken : (i u v : ℕ) → b .tasks < maxTasks → b .files ≡ 0 → i ≡ b .tasks + 1 → ys ≡ withTaskAt xs (b .tasks) u v
+  pub task-taken : (i u v w : ℕ) → b .tasks < maxTasks → b .files ≡ 0 → i ≡ b .tasks + 1 → ys ≡ withTaskAt xs (b .tasks) u v w
       → right (instanceFrom (record { tasks = b .tasks + 1; files = b .files; board = b .board }) (jobOf ys))
-      ≡ orUndue (withLine (instanceFrom b (jobOf xs)) (taskLine i (record { onBlue = u; onRed = v })))
-  task-taken i u v h z e w = rw (task-next b (jobOf xs) i z e, w) (ap right (task-stored b xs long h u v))
+      ≡ orUndue (withLine (instanceFrom b (jobOf xs)) (taskLine i (record { onBlue = u; onRed = v; work = w })))
+  task-taken i u v w h z e q = rw (task-next b (jobOf xs) i z e, q) (ap right (task-stored b xs long h u v w))
 
   pub file-taken : (i j f c : ℕ) → b .tasks ≤ maxTasks → fileAllowed (instanceFrom b (jobOf xs)) i j ≡ true → ys ≡ withFileAt xs (b .files) (i - 1) (j - 1) f c
       → right (instanceFrom (record { tasks = b .tasks; files = b .files + 1; board = b .board }) (jobOf ys))

@@ -8,8 +8,9 @@ use native.Mathlib.Omega.{arith}
 use lib.ListN.{getD}
 use Rattle.rules.specs.Text.{ended, scan, Reading, wrong, right, outOfRange, malformed, ifInRange, orElse}
 use Rattle.rules.specs.BoardType.{sideFrom, checkedBoard}
-use Rattle.rules.specs.InstanceText.{InstanceLine, boardLine, boardForm, taskForm, fileForm, asBoard, asTask, asFile, instanceLineBy, instanceLine}
-use Rattle.rules.specs.Limits.{processorCounts, memoryLimits, inRange}
+use Rattle.rules.specs.InstanceText.{InstanceLine, boardLine, taskLine, boardForm, taskForm, workForm, fileForm, asBoard, asTask, asWork, asFile, instanceLineBy, instanceLine}
+use Rattle.rules.specs.Limits.{taskNumbers, processorCounts, memoryLimits, runTimes, workSizes, inRange}
+use Rattle.rules.proofs.Tests.{and-no, and-yes}
 use Rattle.rules.specs.declared.Side.{Side}
 use Rattle.rules.specs.declared.Checked.{Checked}
 use Rattle.rules.specs.declared.Checked.the-variants.{Within, OutOfRange}
@@ -55,14 +56,35 @@ module _ (l : List ℕ) {a b c d : ℕ} where
     unfolding instanceLineBy
     says-task e = rw (form-missed asBoard _ (scan boardForm l) no-board) (form-found asTask (λ vs. refl) _ (scan taskForm l) e)
 
-    pub says-file : numbersOf (scan taskForm l) ≡ Not → numbersOf (scan fileForm l) ≡ Are a b c d → instanceLine (ended l) ≡ asFile (a ∷ b ∷ c ∷ d ∷ [])
-    unfolding instanceLineBy
-    says-file no-task e =
-        rw (form-missed asBoard _ (scan boardForm l) no-board, form-missed asTask _ (scan taskForm l) no-task)
-        (form-found asFile (λ vs. refl) _ (scan fileForm l) e)
+    module _ (no-task : numbersOf (scan taskForm l) ≡ Not) where
+      pub says-work : numbersOf (scan workForm l) ≡ Are a b c d → instanceLine (ended l) ≡ asWork (a ∷ b ∷ c ∷ d ∷ [])
+      unfolding instanceLineBy
+      says-work e =
+          rw (form-missed asBoard _ (scan boardForm l) no-board, form-missed asTask _ (scan taskForm l) no-task)
+          (form-found asWork (λ vs. refl) _ (scan workForm l) e)
 
-pub says-nothing : (l : List ℕ) → numbersOf (scan boardForm l) ≡ Not → numbersOf (scan taskForm l) ≡ Not → numbersOf (scan fileForm l) ≡ Not
-    → instanceLine (ended l) ≡ wrong malformed
+      pub says-file : numbersOf (scan workForm l) ≡ Not → numbersOf (scan fileForm l) ≡ Are a b c d → instanceLine (ended l) ≡ asFile (a ∷ b ∷ c ∷ d ∷ [])
+      unfolding instanceLineBy
+      says-file no-work e =
+          rw (form-missed asBoard _ (scan boardForm l) no-board, form-missed asTask _ (scan taskForm l) no-task, form-missed asWork _ (scan workForm l) no-work)
+          (form-found asFile (λ vs. refl) _ (scan fileForm l) e)
+
+pub says-nothing : (l : List ℕ) → numbersOf (scan boardForm l) ≡ Not → numbersOf (scan taskForm l) ≡ Not → numbersOf (scan workForm l) ≡ Not
+    → numbersOf (scan fileForm l) ≡ Not → instanceLine (ended l) ≡ wrong malformed
 unfolding instanceLineBy
-says-nothing l no-board no-task no-file =
-    rw (form-missed asBoard _ (scan boardForm l) no-board, form-missed asTask _ (scan taskForm l) no-task, form-missed asFile _ (scan fileForm l) no-file)
+says-nothing l no-board no-task no-work no-file = rw (
+  form-missed asBoard _ (scan boardForm l) no-board,
+  form-missed asTask _ (scan taskForm l) no-task,
+  form-missed asWork _ (scan workForm l) no-work,
+  form-missed asFile _ (scan fileForm l) no-file,
+)
+
+-- ---- a task with W, by whether W is in its range
+module _ (i b r w : ℕ) where
+  pub work-out : inRange workSizes w ≡ false → wrong outOfRange ≡ asWork (i ∷ b ∷ r ∷ w ∷ [])
+  work-out e = rw (e, and-no (inRange taskNumbers i && inRange runTimes b && inRange runTimes r))
+
+  pub work-in : inRange workSizes w ≡ true
+      → ifInRange (inRange taskNumbers i && inRange runTimes b && inRange runTimes r) (taskLine i (record { onBlue = b; onRed = r; work = w }))
+      ≡ asWork (i ∷ b ∷ r ∷ w ∷ [])
+  work-in e = rw (e, and-yes (inRange taskNumbers i && inRange runTimes b && inRange runTimes r))

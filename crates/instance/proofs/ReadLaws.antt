@@ -26,7 +26,7 @@ use Rattle.instance.specs.Steps.{Room, asStep}
 -- the task numbers of a line that was read are in their range
 pub numbered : (p : Parsed) (l : List ℕ) → asReading p ≡ instanceLine (ended l) → Numbered p
 numbered (Board b) l e = tt
-numbered (Task i b r) l e = line-says (ended l) _ (sym e) .2 .ranged .0
+numbered (Task i b r w) l e = line-says (ended l) _ (sym e) .2 .ranged .0
 numbered (File i j f c) l e = let r = line-says (ended l) _ (sym e) .2 .ranged in (r .0, r .1)
 numbered Malformed l e = tt
 numbered OutOfRange l e = tt

@@ -9,7 +9,7 @@ use Rattle.instance.specs.declared.line.Line.the-variants.{Board, Task, 
 
 abbrev pub asReading : Line → Reading InstanceLine
 asReading (Board b) = right (boardLine (sideFrom (b .blue)) (sideFrom (b .red)))
-asReading (Task i b r) = right (taskLine i (record { onBlue = b; onRed = r }))
+asReading (Task i b r w) = right (taskLine i (record { onBlue = b; onRed = r; work = w }))
 asReading (File i j f c) = right (fileLine i j f c)
 asReading Malformed = wrong malformed
 asReading OutOfRange = wrong outOfRange
@@ -17,7 +17,7 @@ asReading OutOfRange = wrong outOfRange
 -- its task numbers are in their range
 abbrev pub Numbered : Line → Type 0
 Numbered (Board b) = Unit {0}
-Numbered (Task i b r) = In taskNumbers i
+Numbered (Task i b r w) = In taskNumbers i
 Numbered (File i j f c) = In taskNumbers i × In taskNumbers j
 Numbered Malformed = Unit {0}
 Numbered OutOfRange = Unit {0}

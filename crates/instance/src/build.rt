@@ -34,6 +34,7 @@ fn fault_of(line: Line) -> Fault
             i: _,
             blue: _,
             red: _,
+            work: _,
         } => Fault::Undue,
         Line::File {
             i: _,
@@ -60,11 +61,18 @@ pub fn first(line: Line) -> Step
 }
 
 // A task's line: the next task, before any file.
-fn add_task(shape: Shape, job: &mut [u64; layout::JOB], i: u64, blue: u64, red: u64) -> Step
+fn add_task(
+    shape: Shape,
+    job: &mut [u64; layout::JOB],
+    i: u64,
+    blue: u64,
+    red: u64,
+    work: u64,
+) -> Step
     requires { ⌜ Room shape ⌝ }
     requires { ⌜ In taskNumbers i ⌝ }
     ensures { λ r. ⌜ asStep r (now (job .exit)) ≡
-        orUndue (withLine (instanceOf shape (now (job .entry))) (taskLine i (record { onBlue = blue; onRed = red }))) ⌝ }
+        orUndue (withLine (instanceOf shape (now (job .entry))) (taskLine i (record { onBlue = blue; onRed = red; work = work }))) ⌝ }
     ensures { λ r. ⌜ RoomIn r ⌝ }
 {
     if shape.files != 0 {
@@ -74,7 +82,7 @@ fn add_task(shape: Shape, job: &mut [u64; layout::JOB], i: u64, blue: u64, red: 
     if i != at as u64 + 1 {
         return Step::Refused(Fault::Undue);
     }
-    layout::set_task(job, at, blue, red);
+    layout::set_task(job, at, blue, red, work);
     let board = shape.board;
     Step::Next(Shape {
         tasks: at + 1,
@@ -156,8 +164,8 @@ pub fn add(shape: Shape, job: &mut [u64; layout::JOB], line: Line) -> Step
     ensures { λ r. ⌜ asStep r (now (job .exit)) ≡ due (withLine (instanceOf shape (now (job .entry)))) (asReading line) ⌝ }
     ensures { λ r. ⌜ RoomIn r ⌝ }
 {
-    if let Line::Task { i, blue, red } = line {
-        return add_task(shape, job, i, blue, red);
+    if let Line::Task { i, blue, red, work } = line {
+        return add_task(shape, job, i, blue, red, work);
     }
     let Line::File { i, j, size, time } = line else {
         return Step::Refused(fault_of(line));

@@ -2,8 +2,9 @@
 ghost use mathlib.Core.Path.{_≡_};
 ghost use mathlib.Core.List.{[], _∷_};
 ghost use Rattle.rules.specs.Limits.{taskNumbers, runTimes, inRange};
-ghost use Rattle.rules.specs.Text.{ended};
-ghost use Rattle.rules.specs.InstanceText.{asBoard, asTask, asFile, instanceLine};
+ghost use mathlib.Core.Bool.{_&&_};
+ghost use Rattle.rules.specs.Text.{ended, ifInRange};
+ghost use Rattle.rules.specs.InstanceText.{taskLine, asBoard, asWork, asFile, instanceLine};
 ghost use Rattle.instance.specs.Lines.{asReading};
 use rules::Board;
 use rules::Checked;
@@ -11,7 +12,7 @@ use rules::Side;
 use rules::between;
 use text::Numbers;
 
-// What a line says, or its fault.
+// What a line says, or its fault. A task's `work` is 0 where W is left out.
 pub enum Line {
     Board {
         board: Board,
@@ -20,6 +21,7 @@ pub enum Line {
         i: u64,
         blue: u64,
         red: u64,
+        work: u64,
     },
     File {
         i: u64,
@@ -63,9 +65,11 @@ fn board_of(blue: u64, bound: u64, red: u64, limit: u64) -> Line
     Line::Board { board }
 }
 
-// The task line of its numbers.
-fn task_of(i: u64, blue: u64, red: u64) -> Line
-    ensures { λ r. ⌜ asReading r ≡ asTask (i ∷ blue ∷ red ∷ []) ⌝ }
+// The task line of its numbers, with a working memory in its range or left out.
+fn task_of(i: u64, blue: u64, red: u64, work: u64) -> Line
+    ensures { λ r. ⌜ asReading r ≡
+        ifInRange (inRange taskNumbers i && inRange runTimes blue && inRange runTimes red)
+        (taskLine i (record { onBlue = blue; onRed = red; work = work })) ⌝ }
 {
     if !is_task(i) {
         return Line::OutOfRange;
@@ -76,7 +80,17 @@ fn task_of(i: u64, blue: u64, red: u64) -> Line
     if !is_run_time(red) {
         return Line::OutOfRange;
     }
-    Line::Task { i, blue, red }
+    Line::Task { i, blue, red, work }
+}
+
+// The task line of its numbers, with W written.
+fn work_of(i: u64, blue: u64, red: u64, work: u64) -> Line
+    ensures { λ r. ⌜ asReading r ≡ asWork (i ∷ blue ∷ red ∷ work ∷ []) ⌝ }
+{
+    if !between(work, Board::MIN_WORK, Board::MAX_WORK) {
+        return Line::OutOfRange;
+    }
+    task_of(i, blue, red, work)
 }
 
 // The file line of its numbers.
@@ -116,7 +130,15 @@ pub fn parse(line: &[u8]) -> Line
         third,
         fourth: _,
     } = text::scan(b"(task # # #)", line) {
-        return task_of(first, second, third);
+        return task_of(first, second, third, 0);
+    }
+    if let Numbers::Are {
+        first,
+        second,
+        third,
+        fourth,
+    } = text::scan(b"(task # # # #)", line) {
+        return work_of(first, second, third, fourth);
     }
     let Numbers::Are {
         first,

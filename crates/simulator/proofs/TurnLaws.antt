@@ -1,14 +1,14 @@
--- The next turn of a hold, a run, a move and a file, by what the code reads of them; and of all of them.
+-- The next turn of a hold, a run, a move, a task and a file, by what the code reads of them; and of all of them.
 use Prim.Native.Nat.{ℕ, _≤_, _<_, max, min}
-use mathlib.Core.Bool.{true, false, _||_}
-use mathlib.Core.Path.{_≡_, refl, sym, _∙_, ap}
+use mathlib.Core.Bool.{Bool, true, false, _||_}
+use mathlib.Core.Path.{_≡_, refl, sym, _∙_}
 use native.Mathlib.Omega.{arith}
 use lib.Dec.{eqb}
 use borrow.Author.Tests.{lt-ltb, le-ltb}
 use Rattle.rules.specs.Count.{anyBelow}
-use Rattle.rules.specs.Model.{blue, red, Instance, taskCount, fileCount, Schedule, startAt, finishAt, moved}
-use Rattle.rules.specs.Residency.{holdOf}
-use Rattle.rules.specs.Simulation.{turns, runTurns, moveTurns, fileTurns, isTurn}
+use Rattle.rules.specs.Model.{Instance, taskCount, fileCount, Schedule, startAt, finishAt, moved}
+use Rattle.rules.specs.Residency as Rules
+use Rattle.rules.specs.Simulation.{turns, runTurns, taskTurns, moveTurns, fileTurns, isTurn}
 use Rattle.model.specs.declared.layout.Shape.{Shape}
 use Rattle.model.specs.declared.residency.FileTimes.{FileTimes}
 use Rattle.model.specs.declared.residency.Hold.{Hold}
@@ -42,6 +42,15 @@ module _ (h : Hold) where
     pub hold-since : {a : ℕ} → h ≡ Since a → Soonest (λ u. eqb a u) from r → Soonest (turns (asHold h)) from r
     hold-since e = soonest-same (λ u. rw e)
 
+-- the holds of both memories, beside another test
+either-of-three : (a b c : Bool) → a || (b || c) ≡ a || b || c
+either-of-three true b c = refl
+either-of-three false b c = refl
+
+pub beside-holds : {p : ℕ → Bool} (x y : Hold) {X Y : Rules.Hold} → asHold x ≡ X → asHold y ≡ Y → {from a b r : ℕ} → Soonest p from a
+    → Soonest (λ u. turns (asHold x) u || turns (asHold y) u) from b → r ≡ min a b → Soonest (λ u. p u || turns X u || turns Y u) from r
+beside-holds {p} x y {X} {Y} e g s t z = soonest-same (λ u. rw (← e, ← g) (either-of-three (p u) (turns (asHold x) u) (turns (asHold y) u))) (soonest-or z s t)
+
 module _ (b : Shape) (J : Job) (L : Entries) where
   abbrev I : Instance
   I = instanceFrom b J
@@ -58,7 +67,7 @@ module _ (b : Shape) (J : Job) (L : Entries) where
         let z : s ≡ startAt P i = p ∙ sym (start-at b L i h) in
         soonest-same (λ u. rw (z, q))
 
-    -- ---- a file
+    -- ---- a move
 
     module _ (k : ℕ) where
       module _ (t : FileTimes) (times : TimesOf I P k t) where
@@ -72,25 +81,20 @@ module _ (b : Shape) (J : Job) (L : Entries) where
             let m : moved I P k ≡ false = sym (times .moves) ∙ e in
             soonest-none _ (λ u. rw m) from
 
-      pub file-turns : (x y : Hold) {a c d n : ℕ} → Soonest (λ u. moveTurns I P u k) from a
-          → asHold x ≡ holdOf I P blue k → Soonest (turns (asHold x)) from c → asHold y ≡ holdOf I P red k → Soonest (turns (asHold y)) from d
-          → n ≡ min a c → r ≡ min n d → Soonest (λ u. fileTurns I P u k) from r
-      file-turns x y p e q g w m z = soonest-or z (soonest-or m p (soonest-same (λ u. ap (λ h. turns h u) e) q)) (soonest-same (λ u. ap (λ h. turns h u) g) w)
+    -- ---- all tasks, all files
 
-    -- ---- all runs, all files
-
-    pub runs-total : {n : ℕ} → n ≡ b .tasks → Soonest (λ u. anyBelow n (runTurns I P u)) from r
-        → Soonest (λ u. anyBelow (taskCount I) (runTurns I P u)) from r
-    runs-total e = soonest-same (λ u. rw (e, task-count b J))
+    pub tasks-total : {n : ℕ} → n ≡ b .tasks → Soonest (λ u. anyBelow n (taskTurns I P u)) from r
+        → Soonest (λ u. anyBelow (taskCount I) (taskTurns I P u)) from r
+    tasks-total e = soonest-same (λ u. rw (e, task-count b J))
 
     pub files-total : {n : ℕ} → n ≡ b .files → Soonest (λ u. anyBelow n (fileTurns I P u)) from r
         → Soonest (λ u. anyBelow (fileCount I) (fileTurns I P u)) from r
     files-total e = soonest-same (λ u. rw (e, file-count b J))
 
-turn-is : (I : Instance) (P : Schedule) (u : ℕ) → anyBelow (taskCount I) (runTurns I P u) || anyBelow (fileCount I) (fileTurns I P u) ≡ isTurn I P u
+turn-is : (I : Instance) (P : Schedule) (u : ℕ) → anyBelow (taskCount I) (taskTurns I P u) || anyBelow (fileCount I) (fileTurns I P u) ≡ isTurn I P u
 unfolding isTurn
 turn-is I P u = refl
 
-pub all-turns : (I : Instance) (P : Schedule) {from a b r : ℕ} → r ≡ min a b → Soonest (λ u. anyBelow (taskCount I) (runTurns I P u)) from a
+pub all-turns : (I : Instance) (P : Schedule) {from a b r : ℕ} → r ≡ min a b → Soonest (λ u. anyBelow (taskCount I) (taskTurns I P u)) from a
     → Soonest (λ u. anyBelow (fileCount I) (fileTurns I P u)) from b → Soonest (isTurn I P) from r
 all-turns I P e x y = soonest-same (turn-is I P) (soonest-or e x y)

@@ -1,10 +1,11 @@
-// The ticks at which a run, a move or a hold starts or ends, here a turn: the next one from a tick on.
+// The ticks at which a run, a move or a hold starts or ends, here a turn: the next one from a tick on. The holds are those of the files and,
+// with Order 6, of the working memory of the tasks.
 ghost use mathlib.Core.Bool.{_||_};
 ghost use lib.Dec.{eqb};
 ghost use Prim.Native.Nat.{_<_, _≤_};
 ghost use Rattle.rules.specs.Count.{anyBelow};
 ghost use Rattle.rules.specs.Model.{taskCount, fileCount};
-ghost use Rattle.rules.specs.Simulation.{turns, runTurns, moveTurns, fileTurns, isTurn};
+ghost use Rattle.rules.specs.Simulation.{turns, runTurns, taskTurns, moveTurns, fileTurns, isTurn};
 ghost use Rattle.model.specs.Holds.{asHold, Within};
 ghost use Rattle.model.specs.Layout.{instanceOf, scheduleOf, InBounds, lastTick};
 ghost use Rattle.simulator.specs.Turns.{Soonest};
@@ -16,6 +17,7 @@ use model::residency::Hold;
 use model::residency::file_times;
 use model::residency::finish;
 use model::residency::hold_of;
+use model::residency::work_hold;
 use rules::Board;
 
 // Stands for no tick: later than any.
@@ -55,6 +57,14 @@ fn next_of_hold(from: u64, h: Hold) -> u64
     }
 }
 
+// The next start or end of either of two holds.
+fn next_of_holds(from: u64, blue: Hold, red: Hold) -> u64
+    requires { ⌜ Within lastTick blue × Within lastTick red ⌝ }
+    ensures { λ r. ⌜ Soonest (λ u. turns (asHold blue) u || turns (asHold red) u) from r ⌝ }
+{
+    lesser(next_of_hold(from, blue), next_of_hold(from, red))
+}
+
 // The next start or end of task i's run.
 fn next_of_run<'a>(
     shape: Shape,
@@ -73,6 +83,26 @@ fn next_of_run<'a>(
         layout::start(schedule, i),
         finish(shape, job, schedule, i),
     )
+}
+
+// The next start or end of task i's run or of the hold of its working memory.
+fn next_of_task<'a>(
+    shape: Shape,
+    job: &'a [u64; layout::JOB],
+    schedule: &'a [u64; layout::SCHEDULE],
+    i: usize,
+    from: u64,
+) -> u64
+    requires { ⌜ InBounds shape (now job) (now schedule) ⌝ }
+    requires { ⌜ i < shape .tasks ⌝ }
+    ensures { λ r. ⌜ Soonest
+        (λ u. taskTurns (instanceOf shape (now (job .entry))) (scheduleOf shape (now (schedule .entry))) u i) from r ⌝ }
+{
+    let running = next_of_run(shape, job, schedule, i, from);
+    let blue = work_hold(shape, job, schedule, i, Colour::Blue);
+    let red = work_hold(shape, job, schedule, i, Colour::Red);
+    let working = next_of_holds(from, blue, red);
+    lesser(running, working)
 }
 
 // The next start or end of file k's move.
@@ -109,13 +139,14 @@ fn next_of_file<'a>(
         (λ u. fileTurns (instanceOf shape (now (job .entry))) (scheduleOf shape (now (schedule .entry))) u k) from r ⌝ }
 {
     let moving = next_of_move(shape, job, schedule, k, from);
-    let blue = next_of_hold(from, hold_of(shape, job, schedule, k, Colour::Blue));
-    let red = next_of_hold(from, hold_of(shape, job, schedule, k, Colour::Red));
-    lesser(lesser(moving, blue), red)
+    let blue = hold_of(shape, job, schedule, k, Colour::Blue);
+    let red = hold_of(shape, job, schedule, k, Colour::Red);
+    let held = next_of_holds(from, blue, red);
+    lesser(moving, held)
 }
 
-// The next start or end of a run.
-fn next_of_runs<'a>(
+// The next start or end of a run or of the hold of a task's working memory.
+fn next_of_tasks<'a>(
     shape: Shape,
     job: &'a [u64; layout::JOB],
     schedule: &'a [u64; layout::SCHEDULE],
@@ -124,18 +155,18 @@ fn next_of_runs<'a>(
     requires { ⌜ InBounds shape (now job) (now schedule) ⌝ }
     ensures { λ r. ⌜ Soonest
         (λ u. anyBelow (taskCount (instanceOf shape (now (job .entry))))
-        (runTurns (instanceOf shape (now (job .entry))) (scheduleOf shape (now (schedule .entry))) u)) from r ⌝ }
+        (taskTurns (instanceOf shape (now (job .entry))) (scheduleOf shape (now (schedule .entry))) u)) from r ⌝ }
 {
     let mut first: u64 = NO_TICK;
     let mut i: usize = 0;
     while i < shape.tasks {
-        first = lesser(first, next_of_run(shape, job, schedule, i, from));
+        first = lesser(first, next_of_task(shape, job, schedule, i, from));
         i += 1;
     }
     first
 }
 
-// The next start or end of a move or a hold.
+// The next start or end of a move or of the hold of a file.
 fn next_of_files<'a>(
     shape: Shape,
     job: &'a [u64; layout::JOB],
@@ -167,7 +198,7 @@ pub fn next_turn<'a>(
     ensures { λ r. ⌜ Soonest (isTurn (instanceOf shape (now (job .entry))) (scheduleOf shape (now (schedule .entry)))) from r ⌝ }
 {
     lesser(
-        next_of_runs(shape, job, schedule, from),
+        next_of_tasks(shape, job, schedule, from),
         next_of_files(shape, job, schedule, from),
     )
 }

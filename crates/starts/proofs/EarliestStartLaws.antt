@@ -7,7 +7,7 @@ use native.Mathlib.Omega.{arith}
 use native.Mathlib.Nat.{add-zero}
 use lib.ListN.{getD}
 use Rattle.rules.specs.Count.{minUpTo}
-use Rattle.rules.specs.Model.{Instance, Schedule}
+use Rattle.rules.specs.Model.{Instance, workAt, Schedule}
 use Rattle.rules.specs.Model as Model
 use Rattle.rules.specs.Scheduling.{Partial, processorStart, freeFrom, latest, delayed, memoryStart, earliestStart}
 use Rattle.rules.specs.Scheduling as Rules
@@ -43,11 +43,11 @@ module _ (a b : Free) (d : ℕ) where
 
 module _ (I : Instance) (P : Schedule) (c : Model.Colour) (m : Memory) (i : ℕ) {d : Demand} (e : DemandOf I P i c d) where
   -- where they are asked for
-  pub memory-aware : m ≡ Aware → (x y z : Free) {need : ℕ} → need ≡ d .incoming + d .outputs
+  pub memory-aware : m ≡ Aware → (x y z : Free) {need w : ℕ} → w ≡ workAt I i → need ≡ d .incoming + d .outputs + w
       → asOption x ≡ freeFrom I P c need → asOption y ≡ freeFrom I P c (d .incoming)
       → asOption z ≡ latest (asOption x) (delayed (asOption y) (d .longest)) → asOption z ≡ memoryStart (asMemory m) I P i c
   unfolding memoryStart
-  memory-aware w x y z en ex ey ez = ez ∙ rw (w, ex, ey, en, e .incoming, e .outputs, e .longest)
+  memory-aware q x y z ew en ex ey ez = ez ∙ rw (q, ex, ey, en, ew, e .incoming, e .outputs, e .longest)
 
   -- and where they are left out
   pub memory-plain : m ≡ Plain → some 0 ≡ memoryStart (asMemory m) I P i c

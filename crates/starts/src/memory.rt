@@ -1,20 +1,21 @@
 // Whether a planner looks at memory; and from when on a memory has an amount free, which starts 3 and 4 ask.
 ghost use mathlib.Core.Path.{_≡_};
-ghost use Prim.Native.Nat.{_<_, _≤_};
+ghost use Prim.Native.Nat.{_≤_};
 ghost use Rattle.rules.specs.Count.{maxBelow};
 ghost use Rattle.rules.specs.Scheduling.{fits, freeFrom};
 ghost use Rattle.model.specs.Colours.{asColour};
 ghost use Rattle.model.specs.Layout.{instanceOf, scheduleOf, InBounds, lastTick};
-ghost use Rattle.model.specs.Holds.{asHold};
-ghost use Rattle.starts.specs.FreeMemory.{asOption, tickOf, endOf, lateEnd, mostNeeded};
+ghost use Rattle.model.specs.Holds.{asHold, Within};
+ghost use Rattle.starts.specs.FreeMemory.{asOption, tickOf, endOf, lateEnd, lateFile, lateWork, mostNeeded};
 use model::choice::greater;
 use model::colour::Colour;
 use model::colour::by_colour;
 use model::layout;
 use model::layout::Shape;
 use model::residency::Hold;
-use model::totals::held_at;
 use model::residency::hold_of;
+use model::residency::work_hold;
+use model::totals::held_at;
 use model::totals::horizon_of;
 
 // Memory aware, or plain: with starts 3 and 4 left out.
@@ -58,22 +59,22 @@ fn end_of(h: Hold) -> u64
     }
 }
 
-// The end of the memory's hold of file k, if `need` does not fit just before it; else 0.
+// The end of a hold in the memory of the colour, if `need` does not fit just before it; else 0.
 fn late_end<'a>(
     shape: Shape,
     job: &'a [u64; layout::JOB],
     schedule: &'a [u64; layout::SCHEDULE],
-    k: usize,
     colour: Colour,
     need: u64,
+    h: Hold,
 ) -> u64
     requires { ⌜ InBounds shape (now job) (now schedule) ⌝ }
-    requires { ⌜ k < shape .files ⌝ }
     requires { ⌜ need ≤ mostNeeded ⌝ }
-    ensures { λ r. ⌜ r ≡ lateEnd (instanceOf shape (now (job .entry))) (scheduleOf shape (now (schedule .entry))) (asColour colour) need k ⌝ }
+    requires { ⌜ Within lastTick h ⌝ }
+    ensures { λ r. ⌜ r ≡ lateEnd (instanceOf shape (now (job .entry))) (scheduleOf shape (now (schedule .entry))) (asColour colour) need (asHold h) ⌝ }
     ensures { λ r. ⌜ r ≤ lastTick ⌝ }
 {
-    let e = end_of(hold_of(shape, job, schedule, k, colour));
+    let e = end_of(h);
     if e == 0 {
         return 0;
     }
@@ -83,8 +84,8 @@ fn late_end<'a>(
     e
 }
 
-// The latest of these ends.
-fn last_late<'a>(
+// The latest of these ends among the holds of files.
+fn late_files<'a>(
     shape: Shape,
     job: &'a [u64; layout::JOB],
     schedule: &'a [u64; layout::SCHEDULE],
@@ -94,13 +95,38 @@ fn last_late<'a>(
     requires { ⌜ InBounds shape (now job) (now schedule) ⌝ }
     requires { ⌜ need ≤ mostNeeded ⌝ }
     ensures { λ r. ⌜ r
-        ≡ maxBelow (shape .files) (lateEnd (instanceOf shape (now (job .entry))) (scheduleOf shape (now (schedule .entry))) (asColour colour) need) ⌝ }
+        ≡ maxBelow (shape .files) (lateFile (instanceOf shape (now (job .entry))) (scheduleOf shape (now (schedule .entry))) (asColour colour) need) ⌝ }
     ensures { λ r. ⌜ r ≤ lastTick ⌝ }
 {
     let mut most: u64 = 0;
     let mut i: usize = 0;
     while i < shape.files {
-        most = greater(most, late_end(shape, job, schedule, i, colour, need));
+        let h = hold_of(shape, job, schedule, i, colour);
+        most = greater(most, late_end(shape, job, schedule, colour, need, h));
+        i += 1;
+    }
+    most
+}
+
+// And among those of working memory.
+fn late_work<'a>(
+    shape: Shape,
+    job: &'a [u64; layout::JOB],
+    schedule: &'a [u64; layout::SCHEDULE],
+    colour: Colour,
+    need: u64,
+) -> u64
+    requires { ⌜ InBounds shape (now job) (now schedule) ⌝ }
+    requires { ⌜ need ≤ mostNeeded ⌝ }
+    ensures { λ r. ⌜ r
+        ≡ maxBelow (shape .tasks) (lateWork (instanceOf shape (now (job .entry))) (scheduleOf shape (now (schedule .entry))) (asColour colour) need) ⌝ }
+    ensures { λ r. ⌜ r ≤ lastTick ⌝ }
+{
+    let mut most: u64 = 0;
+    let mut i: usize = 0;
+    while i < shape.tasks {
+        let h = work_hold(shape, job, schedule, i, colour);
+        most = greater(most, late_end(shape, job, schedule, colour, need, h));
         i += 1;
     }
     most
@@ -122,7 +148,9 @@ pub fn free_from<'a>(
 {
     let settled = horizon_of(shape, job, schedule, colour);
     if fits_at(shape, job, schedule, colour, need, settled) {
-        Free::From(last_late(shape, job, schedule, colour, need))
+        let files = late_files(shape, job, schedule, colour, need);
+        let work = late_work(shape, job, schedule, colour, need);
+        Free::From(greater(files, work))
     } else {
         Free::Nowhere
     }

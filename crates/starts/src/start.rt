@@ -1,7 +1,8 @@
 // The earliest start of a task on a colour: the greatest of the starts 1 to 4; of 1 and 2, if the planner is plain.
 ghost use mathlib.Core.Path.{_≡_};
-ghost use Prim.Native.Nat.{ℕ, _≤_};
-ghost use Rattle.rules.specs.Limits.{maxFiles, moveTimes};
+ghost use Prim.Native.Nat.{ℕ, _≤_, _<_};
+ghost use Rattle.rules.specs.Limits.{maxFiles, moveTimes, workSizes};
+ghost use Rattle.rules.specs.Model.{workAt};
 ghost use Rattle.rules.specs.Scheduling.{processorStart, latest as rules-latest, delayed, memoryStart, earliestStart};
 ghost use Rattle.model.specs.Colours.{asColour};
 ghost use Rattle.model.specs.Layout.{Job, Entries, instanceFrom, partialFrom, instanceOf, scheduleOf, partialOf};
@@ -56,7 +57,7 @@ fn latest(running: Free, moving: Free, delay: u64) -> Free
     Free::From(greater(s, t + delay))
 }
 
-// Starts 3 and 4 of a task with this demand: the greater of the two, if the planner looks at memory; else 0. Nothing else asks for them.
+// Starts 3 and 4 of a task with this demand and this working memory, which start 3 alone asks for: the greater of the two, if the planner looks at memory; else 0. Nothing else asks for them.
 fn memory_start<'a>(
     memory: Memory,
     shape: Shape,
@@ -64,16 +65,18 @@ fn memory_start<'a>(
     schedule: &'a [u64; layout::SCHEDULE],
     colour: Colour,
     demand: Demand,
+    work: u64,
 ) -> Free
     requires { ⌜ InBounds shape (now job) (now schedule) ⌝ }
-    requires { ⌜ DemandBounds maxFiles demand ⌝ }
+    requires { ⌜ DemandBounds maxFiles demand × (work ≤ workSizes .most) ⌝ }
     ensures { λ r. ⌜ ((i : ℕ) → DemandOf (instanceOf shape (now (job .entry))) (scheduleOf shape (now (schedule .entry))) i (asColour colour) demand →
+        work ≡ workAt (instanceOf shape (now (job .entry))) i →
         asOption r ≡ memoryStart (asMemory memory) (instanceOf shape (now (job .entry))) (scheduleOf shape (now (schedule .entry))) i (asColour colour)) ⌝ }
     ensures { λ r. ⌜ tickOf r ≤ lastStart ⌝ }
 {
     match memory {
         Memory::Aware => {
-            let need = demand.incoming + demand.outputs;
+            let need = demand.incoming + demand.outputs + work;
             let running = free_from(shape, job, schedule, colour, need);
             let moving = free_from(shape, job, schedule, colour, demand.incoming);
             latest(running, moving, demand.longest)
@@ -94,6 +97,7 @@ pub fn earliest_start<'a>(
 ) -> Free
     requires { ⌜ InBounds shape (now job) (now schedule) ⌝ }
     requires { ⌜ LastBounds shape (now last) ⌝ }
+    requires { ⌜ task < shape .tasks ⌝ }
     ensures { λ r. ⌜ asOption r ≡ earliestStart (asMemory memory)
         (instanceOf shape (now (job .entry))) (partialOf shape (now (schedule .entry)) (now (last .entry))) task (asColour colour) ⌝ }
     ensures { λ r. ⌜ tickOf r ≤ lastStart ⌝ }
@@ -101,7 +105,8 @@ pub fn earliest_start<'a>(
     let demand = demand_of(shape, job, schedule, task, colour);
     let free = processor_start(shape, last, colour);
     let ready = greater(free, demand.arrival);
-    let asked = memory_start(memory, shape, job, schedule, colour, demand);
+    let work = layout::work(job, task as usize);
+    let asked = memory_start(memory, shape, job, schedule, colour, demand, work);
     let Free::From(s) = asked else {
         return Free::Nowhere;
     };

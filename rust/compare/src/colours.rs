@@ -14,7 +14,7 @@ const CASES: [(&str, Colour, Colour); 4] = [
     ("red-blue", Red, Blue),
 ];
 
-/// Timetables with files that hold nothing from this tick on are gone through tick by tick.
+/// Timetables with files or a W that hold nothing from this tick on are gone through tick by tick.
 const MOST_TICKS: i64 = 300;
 
 /// The answers that say something about what is held: in accepted timetables and those refused by 18 no memory is over its limit.
@@ -72,18 +72,74 @@ impl Held {
     }
 }
 
-/// What the blue and the red memory hold at a tick.
-fn total(files: &[Held], tick: i64) -> [i64; 2] {
-    let held: Vec<[i64; 2]> = files.iter().map(|f| f.at(tick)).collect();
-    [0, 1].map(|c| held.iter().map(|h| h[c]).sum())
+/// The run of a task with a W, which its memory holds from the start until the release.
+struct Working {
+    colour: Colour,
+    work: i64,
+    start: i64,
+    release: i64,
+}
+
+impl Working {
+    fn all(sheet: &Sheet, table: &Table) -> Vec<Working> {
+        let tasks = sheet.tasks.iter().enumerate().filter(|(_, t)| t.work != 0);
+        tasks
+            .map(|(i, task)| {
+                let (processor, start) = table.runs[i].unwrap();
+                Working {
+                    colour: sheet.colour(processor),
+                    work: task.work,
+                    start,
+                    release: release(sheet, table, i),
+                }
+            })
+            .collect()
+    }
+
+    /// What the blue and the red memory hold of the W at a tick.
+    fn at(&self, tick: i64) -> [i64; 2] {
+        match self.colour {
+            _ if tick < self.start || self.release <= tick => [0, 0],
+            Blue => [self.work, 0],
+            Red => [0, self.work],
+        }
+    }
+}
+
+/// All that a timetable holds.
+struct Contents {
+    files: Vec<Held>,
+    works: Vec<Working>,
+}
+
+impl Contents {
+    fn new(sheet: &Sheet, table: &Table) -> Contents {
+        Contents {
+            files: Held::all(sheet, table),
+            works: Working::all(sheet, table),
+        }
+    }
+
+    /// What the blue and the red memory hold at a tick.
+    fn total(&self, tick: i64) -> [i64; 2] {
+        let files = self.files.iter().map(|f| f.at(tick));
+        let held: Vec<[i64; 2]> = files.chain(self.works.iter().map(|w| w.at(tick))).collect();
+        [0, 1].map(|c| held.iter().map(|h| h[c]).sum())
+    }
+
+    /// The tick from which on nothing is held, if no file is early: each move then ends before the release. None if nothing is ever held.
+    fn end(&self) -> Option<i64> {
+        let files = self.files.iter().map(|f| f.release);
+        files.chain(self.works.iter().map(|w| w.release)).max()
+    }
 }
 
 /// Both peaks and the first instant over a limit, looking at each tick before `end`.
-fn by_ticks(sheet: &Sheet, files: &[Held], end: i64) -> ([i64; 2], Option<i64>) {
+fn by_ticks(sheet: &Sheet, contents: &Contents, end: i64) -> ([i64; 2], Option<i64>) {
     let mut peaks = [0, 0];
     let mut over = None;
     for tick in 0..end {
-        let now = total(files, tick);
+        let now = contents.total(tick);
         for c in 0..2 {
             peaks[c] = peaks[c].max(now[c]);
             if over.is_none() && now[c] > sheet.limits[c] {
@@ -103,6 +159,8 @@ pub struct Counts {
     tried: ByCase,
     planned: ByCase,
     by_ticks: BTreeMap<u64, u64>,
+    /// of these with a W
+    with_work: u64,
 }
 
 fn count(counts: &mut ByCase, maker: Colour, reader: Colour) {
@@ -119,11 +177,11 @@ impl Counts {
     pub fn marked(&mut self, sheet: &[u8], paper: &[u8], answer: [u64; 5]) -> Result<(), String> {
         let sheet = read_sheet(sheet).expect("a sound sheet");
         let (table, _) = read_table(&sheet, paper).expect("a sound timetable");
-        let files = Held::all(&sheet, &table);
+        let contents = Contents::new(&sheet, &table);
         let (number, place) = (answer[0], answer[1] as i64);
-        let now = total(&files, place);
+        let now = contents.total(place);
         let over = |held: [i64; 2]| (0..2).any(|c| now[c] > sheet.limits[c] && held[c] > 0);
-        for (k, f) in files.iter().enumerate() {
+        for (k, f) in contents.files.iter().enumerate() {
             match number {
                 0 => count(&mut self.accepted, f.maker, f.reader),
                 16 if early(&sheet, &table, k) => count(&mut self.early, f.maker, f.reader),
@@ -132,19 +190,22 @@ impl Counts {
             }
         }
         if CHECKED.contains(&number) {
-            self.check(&sheet, &files, answer)?;
+            self.check(&sheet, &contents, answer)?;
         }
         Ok(())
     }
 
     /// Compares a short timetable, gone through tick by tick, with the answer to it.
-    fn check(&mut self, sheet: &Sheet, files: &[Held], answer: [u64; 5]) -> Result<(), String> {
-        // no file is early, so each move ends before the release
-        let last = files.iter().map(|f| f.release).max();
-        let Some(end) = last.filter(|end| *end <= MOST_TICKS) else {
+    fn check(
+        &mut self,
+        sheet: &Sheet,
+        contents: &Contents,
+        answer: [u64; 5],
+    ) -> Result<(), String> {
+        let Some(end) = contents.end().filter(|end| *end <= MOST_TICKS) else {
             return Ok(());
         };
-        let (peaks, over) = by_ticks(sheet, files, end);
+        let (peaks, over) = by_ticks(sheet, contents, end);
         let [number, place, _, blue, red] = answer;
         let same = match number {
             17 => over == Some(place as i64),
@@ -157,12 +218,13 @@ impl Counts {
             ));
         }
         *self.by_ticks.entry(number).or_default() += 1;
+        self.with_work += u64::from(!contents.works.is_empty());
         Ok(())
     }
 
     /// A planner's answer to a sheet.
     pub fn planned(&mut self, sheet: &[u8], answer: &Planned) {
-        for (all, met) in self.tried.iter_mut().zip(answer.met) {
+        for (all, met) in self.tried.iter_mut().zip(answer.met.files) {
             for (c, n) in met.iter().enumerate() {
                 all[c] += n;
             }
@@ -202,7 +264,8 @@ impl Counts {
         }
         let [accepted, over, untrue] = CHECKED.map(|n| self.checked(n));
         println!(
-            "timetables with files gone through tick by tick: {accepted} accepted, refused by 17: {over}, 18: {untrue}"
+            "timetables with files or W gone through tick by tick: {accepted} accepted, refused by 17: {over}, 18: {untrue}; with W: {}",
+            self.with_work
         );
     }
 
@@ -216,8 +279,11 @@ impl Counts {
         }
         for number in CHECKED.iter().filter(|n| self.checked(**n) == 0) {
             all.push(format!(
-                "no timetable with files and the answer {number} was gone through tick by tick"
+                "no timetable with files or W and the answer {number} was gone through tick by tick"
             ));
+        }
+        if self.with_work == 0 {
+            all.push("no timetable with W was gone through tick by tick".to_string());
         }
         all
     }

@@ -244,11 +244,12 @@ mod tests {
     use super::*;
     use crate::library;
     use crate::reference::{mark, mark_by, CURRENT};
+    use crate::widths::NARROW;
 
     #[test]
     fn by_the_former_limits() {
         for texts in known() {
-            texts.hold(FORMER, |s, p| mark_by(FORMER, s, p)).unwrap();
+            texts.hold(FORMER, |s, p| mark_by(NARROW, s, p)).unwrap();
         }
     }
 

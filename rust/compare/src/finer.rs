@@ -1,6 +1,6 @@
 //! The same job in finer ticks. Where every time of a sheet is so many times as long and no task is a relay, the planners write the same
 //! timetables with every start and the span so many times as great, after as many trials, and the marker says the same of them. (What a
-//! relay reads is held until the next tick, however long a tick is.)
+//! relay reads is held until the next tick, however long a tick is, and so is its W.)
 
 use crate::generate::finer;
 use crate::library::{self, Answered};
@@ -8,7 +8,7 @@ use crate::reference::{Planner, Sheet, CURRENT, MAX_TEXT, PLANNERS};
 
 /// The greatest number by which the times of a sheet can be multiplied.
 pub fn most(sheet: &Sheet) -> i64 {
-    let run = sheet.tasks.iter().flatten().copied().max().unwrap_or(0);
+    let run = sheet.tasks.iter().flat_map(|t| t.times).max().unwrap_or(0);
     let moved = sheet.files.iter().map(|f| f.time).max().unwrap_or(0);
     (CURRENT.run_time / run.max(1)).min(CURRENT.move_time / moved.max(1))
 }
@@ -122,9 +122,19 @@ mod tests {
         assert_eq!(most(&read_sheet(RELAYS).unwrap()), 1_000_000_000 / 9);
     }
 
+    /// One of these two waits for the other's W, which its memory holds until the finish.
+    const WORK: &[u8] = b"(board (blue 2 5) (red 1 0))\n(task 1 2 9 3)\n(task 2 2 9 3)\n";
+
     #[test]
     fn course_example() {
         assert!(Counts::default().planned(COURSE, 1_000_000).is_ok());
+    }
+
+    #[test]
+    fn waits_for_work() {
+        let mut counts = Counts::default();
+        counts.planned(WORK, 1_000_000).unwrap();
+        assert_eq!((counts.accepted, counts.over, counts.stuck), (2, 2, 0));
     }
 
     /// With relays it does not hold, so the comparison can fail.

@@ -2,7 +2,7 @@
 
 use crate::reference::{
     finish, moves, peaks, read_sheet, span, write_table, Sheet, Table, CURRENT, FORMER, MAX_FILES,
-    MAX_LIMIT, MAX_PROCESSORS, MAX_SIZE, MAX_TASKS, MAX_TEXT,
+    MAX_LIMIT, MAX_PROCESSORS, MAX_SIZE, MAX_TASKS, MAX_TEXT, MAX_WORK,
 };
 use crate::simulation::Trace;
 use std::collections::BTreeSet;
@@ -99,12 +99,17 @@ pub fn large_sheet(r: &mut Random, tasks: usize) -> String {
     text
 }
 
-/// The text of a board sheet.
+/// The text of a board sheet; W is written where it is not 0.
 pub fn write_sheet(sheet: &Sheet) -> String {
     let ([blues, reds], [blue, red]) = (sheet.processors, sheet.limits);
     let mut text = format!("(board (blue {blues} {blue}) (red {reds} {red}))\n");
-    for (i, [b, r]) in sheet.tasks.iter().enumerate() {
-        text += &format!("(task {} {b} {r})\n", i + 1);
+    for (i, task) in sheet.tasks.iter().enumerate() {
+        let [b, r] = task.times;
+        let work = match task.work {
+            0 => String::new(),
+            work => format!(" {work}"),
+        };
+        text += &format!("(task {} {b} {r}{work})\n", i + 1);
     }
     for f in &sheet.files {
         let (i, j) = (f.maker + 1, f.reader + 1);
@@ -116,11 +121,8 @@ pub fn write_sheet(sheet: &Sheet) -> String {
 /// A sound sheet with each time so many times as long.
 pub fn finer(text: &[u8], by: i64) -> Vec<u8> {
     let mut sheet = read_sheet(text).expect("a sound sheet");
-    sheet
-        .tasks
-        .iter_mut()
-        .flatten()
-        .for_each(|time| *time *= by);
+    let tasks = sheet.tasks.iter_mut();
+    tasks.flat_map(|t| &mut t.times).for_each(|t| *t *= by);
     sheet.files.iter_mut().for_each(|f| f.time *= by);
     write_sheet(&sheet).into_bytes()
 }
@@ -130,19 +132,24 @@ pub fn sizes(sheet: &Sheet) -> i64 {
     sheet.files.iter().map(|f| f.size).sum()
 }
 
+/// The sum of all file sizes and all W: limits of so much are ample.
+pub fn ample(sheet: &Sheet) -> i64 {
+    sizes(sheet) + sheet.tasks.iter().map(|t| t.work).sum::<i64>()
+}
+
 /// A sound sheet with relays in it: one, many, a chain or all tasks, on blue, on red or on both; often with tight limits.
 pub fn with_relays(r: &mut Random, text: &str) -> String {
     let mut sheet = read_sheet(text.as_bytes()).expect("a sound sheet");
     let colours = r.below(4);
     for i in relay_tasks(r, &sheet) {
         match colours {
-            0 | 1 => sheet.tasks[i][colours] = 0,
-            2 => sheet.tasks[i] = [0, 0],
-            _ => sheet.tasks[i][r.below(2)] = 0,
+            0 | 1 => sheet.tasks[i].times[colours] = 0,
+            2 => sheet.tasks[i].times = [0, 0],
+            _ => sheet.tasks[i].times[r.below(2)] = 0,
         }
     }
     let colour = r.below(2);
-    let (total, way) = (sizes(&sheet), r.below(5));
+    let (total, way) = (ample(&sheet), r.below(5));
     match way {
         0 => {}
         1 | 2 => sheet.limits = [total; 2],
@@ -172,6 +179,58 @@ fn relay_tasks(r: &mut Random, sheet: &Sheet) -> Vec<usize> {
         _ => tasks = (0..n).collect(),
     }
     tasks
+}
+
+/// A sound sheet with W: on one task, on some or on all; mostly with limits that do not leave room for every W at once.
+pub fn with_work(r: &mut Random, text: &str) -> String {
+    let mut sheet = read_sheet(text.as_bytes()).expect("a sound sheet");
+    let way = r.below(8);
+    for i in work_tasks(r, &sheet) {
+        sheet.tasks[i].work = work(r, &sheet, way);
+    }
+    let (files, total, colour) = (sizes(&sheet), ample(&sheet), r.below(2));
+    let greatest = sheet.tasks.iter().map(|t| t.work).max().unwrap_or(0);
+    match r.below(12) {
+        0 | 1 => {}
+        2 => sheet.limits = [total; 2],
+        3 => {
+            sheet.limits = [total; 2];
+            sheet.limits[colour] -= 1;
+        }
+        4 => sheet.limits = [files; 2],
+        5 | 6 => sheet.limits = [files + greatest; 2],
+        7 => sheet.limits = [greatest, greatest].map(|w| w - r.between(0, 1)),
+        8 => sheet.limits = peaks(&sheet, &table(r, &sheet)),
+        9 => {
+            sheet.limits = peaks(&sheet, &table(r, &sheet));
+            sheet.limits[colour] = (sheet.limits[colour] - 1).max(0);
+        }
+        _ => sheet.limits = [0, 0].map(|_| r.between(0, total)),
+    }
+    write_sheet(&sheet)
+}
+
+/// The tasks to have W, at least one.
+fn work_tasks(r: &mut Random, sheet: &Sheet) -> Vec<usize> {
+    let n = sheet.tasks.len();
+    let mut tasks = vec![r.below(n)];
+    match r.below(3) {
+        0 => {}
+        1 => tasks.extend((0..n).filter(|_| r.one_in(2))),
+        _ => tasks = (0..n).collect(),
+    }
+    tasks
+}
+
+/// A W: small, up to the sum of all file sizes, next to a limit, or the least or the greatest.
+fn work(r: &mut Random, sheet: &Sheet, way: usize) -> i64 {
+    let any = match way {
+        0..=3 => r.between(1, 6),
+        4 | 5 => r.between(1, sizes(sheet).max(1)),
+        6 => sheet.limits[r.below(2)] + r.between(-1, 1),
+        _ => [1, MAX_WORK][r.below(2)],
+    };
+    any.clamp(1, MAX_WORK)
 }
 
 /// A timetable that keeps the rules but for the limits: each task somewhere, after its files have arrived, with idle gaps and early moves.
@@ -301,15 +360,19 @@ pub fn put_last(r: &mut Random, sheet: &Sheet, table: &Table) -> Table {
     t
 }
 
-/// A sheet with limits at what a timetable needs, or one less in one memory: its peaks, or what the relays at its span read.
+/// A sheet with limits at what a timetable needs, or one less in one memory: its peaks, or what is held at its span, where relays are: what
+/// they read, and their W.
 pub fn limited(r: &mut Random, sheet: &Sheet, t: &Table) -> Sheet {
     let mut s = sheet.clone();
     let c = r.below(2);
     let at = span(sheet, t);
-    let last = sheet.files.iter().filter(|f| {
-        let (p, start) = t.runs[f.reader].unwrap();
+    let last = |i: usize| {
+        let (p, start) = t.runs[i].unwrap();
         sheet.colour(p) as usize == c && start == at
-    });
+    };
+    let read = sheet.files.iter().map(|f| (f.reader, f.size));
+    let works = sheet.tasks.iter().enumerate().map(|(i, t)| (i, t.work));
+    let held = read.chain(works).filter(|(i, _)| last(*i));
     let needed = peaks(sheet, t);
     match r.below(6) {
         0 => {}
@@ -320,7 +383,7 @@ pub fn limited(r: &mut Random, sheet: &Sheet, t: &Table) -> Sheet {
         }
         _ => {
             s.limits = needed;
-            s.limits[c] = (last.map(|f| f.size).sum::<i64>() - r.between(0, 1)).max(0);
+            s.limits[c] = (held.map(|h| h.1).sum::<i64>() - r.between(0, 1)).max(0);
         }
     }
     s
@@ -465,14 +528,24 @@ pub fn all_moved() -> (Vec<u8>, Vec<u8>) {
         runs: (0..64).map(start).collect(),
         moves: vec![320; sheet.files.len()],
     };
+    texts(&sheet, &table)
+}
+
+/// The texts of a sheet and of a timetable, with its true claim.
+fn texts(sheet: &Sheet, table: &Table) -> (Vec<u8>, Vec<u8>) {
     (
-        write_sheet(&sheet).into_bytes(),
-        write_table(&sheet, &table).into_bytes(),
+        write_sheet(sheet).into_bytes(),
+        write_table(sheet, table).into_bytes(),
     )
 }
 
 /// The same with each start and each end of a run or a move at a tick of its own: 640 ticks.
 pub fn all_apart() -> (Vec<u8>, Vec<u8>) {
+    let (sheet, table) = apart();
+    texts(&sheet, &table)
+}
+
+fn apart() -> (Sheet, Table) {
     let sheet = halves(1001);
     let start = |i: i64| {
         Some(if i < 32 {
@@ -485,10 +558,16 @@ pub fn all_apart() -> (Vec<u8>, Vec<u8>) {
         runs: (0..64).map(start).collect(),
         moves: (0..256).map(|k| 1000 + 2 * k).collect(),
     };
-    (
-        write_sheet(&sheet).into_bytes(),
-        write_table(&sheet, &table).into_bytes(),
-    )
+    (sheet, table)
+}
+
+/// The same with a relay with W for each task, whose hold ends at a tick at which nothing else starts or ends where it reads nothing.
+pub fn all_apart_with_work() -> (Vec<u8>, Vec<u8>) {
+    let (mut sheet, table) = apart();
+    for task in &mut sheet.tasks {
+        (task.times, task.work) = ([0, 0], 1);
+    }
+    texts(&sheet, &table)
 }
 
 /// A run time or a move time: next to the greatest of the former or of the present limits, small, or any.
@@ -504,7 +583,8 @@ fn fine_time(r: &mut Random, former: i64, present: i64) -> i64 {
 /// A sound sheet with times up to the present limits: one of them, or all. Relays stay relays.
 pub fn with_fine_times(r: &mut Random, text: &[u8]) -> Vec<u8> {
     let mut sheet = read_sheet(text).expect("a sound sheet");
-    let runs = sheet.tasks.iter_mut().flatten().filter(|time| **time > 0);
+    let runs = sheet.tasks.iter_mut().flat_map(|t| &mut t.times);
+    let runs = runs.filter(|time| **time > 0);
     let runs = runs.map(|time| (time, FORMER.run_time, CURRENT.run_time));
     let moves = sheet.files.iter_mut().map(|f| &mut f.time);
     let moves = moves.map(|time| (time, FORMER.move_time, CURRENT.move_time));
@@ -554,7 +634,7 @@ pub fn late(r: &mut Random, sheet: &Sheet, t: &Table) -> Table {
 /// Numerals next to each limit, the least and the greatest of each length from the former digits to two past the present ones, some that
 /// are 1 modulo a power of two, and some with a leading zero.
 fn edge_numerals() -> Vec<String> {
-    let limits = [MAX_PROCESSORS, MAX_TASKS, MAX_SIZE, MAX_LIMIT];
+    let limits = [MAX_PROCESSORS, MAX_TASKS, MAX_SIZE, MAX_WORK, MAX_LIMIT];
     let wider = [FORMER.run_time, CURRENT.run_time, FORMER.tick, CURRENT.tick];
     let next = limits.into_iter().chain(wider).flat_map(|n| n - 1..=n + 1);
     let lengths = FORMER.digits as u32..=CURRENT.digits as u32 + 2;
@@ -645,6 +725,53 @@ pub fn damaged(r: &mut Random, text: &[u8]) -> Vec<u8> {
         }
     }
     lines.concat()
+}
+
+/// Faults of a task line about its W: what they are called, the number that refuses them, and the line, with I for the task, J for another,
+/// and B, R and W.
+pub const WORK_FAULTS: [(&str, u64, &str); 26] = [
+    ("a written 0", 3, "(task I B R 0)"),
+    ("one too many", 3, "(task I B R 1000001)"),
+    ("twelve digits", 3, "(task I B R 999999999999)"),
+    ("thirteen digits", 2, "(task I B R 1000000000000)"),
+    ("1 modulo 2^64", 2, "(task I B R 18446744073709551617)"),
+    ("a leading zero", 2, "(task I B R 0W)"),
+    ("two zeros", 2, "(task I B R 00)"),
+    ("a fifth number", 2, "(task I B R W W)"),
+    ("a sixth number", 2, "(task I B R W W W)"),
+    ("R missing", 2, "(task I B  W)"),
+    ("B and R missing", 2, "(task I W)"),
+    ("no digit", 2, "(task I B R )"),
+    ("a space behind", 2, "(task I B R W )"),
+    ("two spaces", 2, "(task I B R  W)"),
+    ("a comma", 2, "(task I B R,W)"),
+    ("a plus sign", 2, "(task I B R +W)"),
+    ("a minus sign", 2, "(task I B R -W)"),
+    ("a CR", 2, "(task I B R W)\r"),
+    ("behind the bracket", 2, "(task I B R) W"),
+    ("in brackets", 2, "(task I B R (W))"),
+    ("no bracket", 2, "(task I B R W"),
+    ("and a run time too large", 3, "(task I 1000000001 R W)"),
+    ("and task 65", 3, "(task 65 B R W)"),
+    ("and another task", 4, "(task J B R W)"),
+    ("0 and another task", 3, "(task J B R 0)"),
+    ("on a file", 2, "(file I J B 1 W)"),
+];
+
+/// A sound sheet with one of these faults in the line of one of its tasks; the line's place.
+pub fn with_work_fault(r: &mut Random, sheet: &Sheet, line: &str) -> (Vec<u8>, u64) {
+    let i = r.below(sheet.tasks.len());
+    let ([blue, red], work) = (sheet.tasks[i].times, sheet.tasks[i].work.max(1));
+    let task = i as i64 + 1;
+    let numbers = [task, task % MAX_TASKS + 1, blue, red, work];
+    let mut other = line.to_string();
+    for (letter, number) in ["I", "J", "B", "R", "W"].iter().zip(numbers) {
+        other = other.replace(letter, &number.to_string());
+    }
+    let text = write_sheet(sheet);
+    let mut lines: Vec<&str> = text.lines().collect();
+    lines[i + 1] = &other;
+    ((lines.join("\n") + "\n").into_bytes(), i as u64 + 2)
 }
 
 /// Where the numbers of a text are.

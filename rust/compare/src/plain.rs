@@ -2,7 +2,7 @@
 //! and on the same sheet with other limits. Span, peaks and the first instant over a limit are counted from the lines of a plan by code of
 //! their own; the sheet is read by reference.rs. How often each answer was reached.
 
-use crate::generate::{sizes, write_sheet, Random};
+use crate::generate::{ample, sizes, write_sheet, Random};
 use crate::library::{self, compared, Answered};
 use crate::plans::plans;
 use crate::reference::{self, read_sheet, Heuristic, Memory, Planned, Planner, Sheet, MAX_LIMIT};
@@ -11,7 +11,7 @@ use std::fmt;
 use Heuristic::{Heft, MinMin};
 use Memory::{Aware, Plain};
 
-/// A file held in a memory (0 blue, 1 red), from a tick until another, which is not included.
+/// A file or a W held in a memory (0 blue, 1 red), from a tick until another, which is not included.
 struct Hold {
     memory: usize,
     size: i64,
@@ -49,7 +49,7 @@ impl Lines {
 
     fn span(&self, sheet: &Sheet) -> i64 {
         let runs = self.runs.iter().zip(&sheet.tasks);
-        let finishes = runs.map(|((p, s), times)| s + times[memory(sheet, *p)]);
+        let finishes = runs.map(|((p, s), task)| s + task.times[memory(sheet, *p)]);
         finishes.max().expect("a task")
     }
 
@@ -70,13 +70,14 @@ impl Lines {
         now != before
     }
 
-    /// The holds of all files. What a run reads is held until `least` ticks past its start at least: 1 by Order 1, 0 by the rule before it.
+    /// The holds of all files and of each W. What a run reads is held until `least` ticks past its start at least: 1 by Order 1, 0 by the
+    /// rule before it. Its W is held for a tick at least.
     fn holds(&self, sheet: &Sheet, least: i64) -> Vec<Hold> {
         let mut all = vec![];
         for f in &sheet.files {
             let ((maker, made), (reader, read)) = (self.runs[f.maker], self.runs[f.reader]);
             let [home, away] = [maker, reader].map(|p| memory(sheet, p));
-            let until = read + sheet.tasks[f.reader][away].max(least);
+            let until = read + sheet.tasks[f.reader].times[away].max(least);
             let mut hold = |memory, from, until| {
                 all.push(Hold {
                     memory,
@@ -91,6 +92,17 @@ impl Lines {
                     hold(home, made, t + f.time);
                     hold(away, *t, until);
                 }
+            }
+        }
+        for ((processor, start), task) in self.runs.iter().zip(&sheet.tasks) {
+            let memory = memory(sheet, *processor);
+            if task.work > 0 {
+                all.push(Hold {
+                    memory,
+                    size: task.work,
+                    from: *start,
+                    until: start + task.times[memory].max(1),
+                });
             }
         }
         all
@@ -162,11 +174,14 @@ struct Row {
     by_relay: u64,
     /// on the sheet as it is
     own: Beside,
-    /// calls with limits of the sum of all sizes or more, and of the plain planner with limits of 0
+    /// calls with limits of the sum of all sizes and all W or more, of these on sheets with W, and of the plain planner with limits of 0
     ample: u64,
+    ample_work: u64,
     zero: u64,
-    /// with the sum of all sizes less one block in one memory, and with the plain plan's peaks as limits
+    /// with that sum less one block in one memory; on sheets with W, with limits of at least the sum of all sizes, but less than with all W;
+    /// and with the plain plan's peaks as limits
     less: Beside,
+    sizes_alone: Beside,
     at_peaks: Beside,
     /// plain plans refused by 17 with one block less than a peak
     below_peak: u64,
@@ -316,8 +331,9 @@ impl Counts {
         for (plain, aware, row) in self.named() {
             println!(
                 "{plain}: {} plans, {} accepted, refused by 17: {}, of these for what a relay reads: {}; {aware} on these sheets: {}; \
-                 with limits of the sum of all sizes or more: {} calls, no difference; of 0: {} calls of {plain}, no difference; \
-                 of the sum, less one block in a memory: {}; of the plan's peaks: {}; \
+                 with limits of the sum of all sizes and all W or more: {} calls, with W: {}, no difference; \
+                 of 0: {} calls of {plain}, no difference; of the sum, less one block in a memory: {}; \
+                 of at least the sum of all sizes, but less than with all W: {}; of the plan's peaks: {}; \
                  plans refused by 17 with one block less than a peak: {}",
                 row.plans,
                 row.accepted,
@@ -325,8 +341,10 @@ impl Counts {
                 row.by_relay,
                 row.own,
                 row.ample,
+                row.ample_work,
                 row.zero,
                 row.less,
+                row.sizes_alone,
                 row.at_peaks,
                 row.below_peak
             );
@@ -350,13 +368,15 @@ impl Counts {
 
 impl Row {
     fn other_limits(&mut self, r: &mut Random, sheet: &Sheet, pair: &Pair) -> Result<(), String> {
-        let total = sizes(sheet);
+        let (total, files) = (ample(sheet), sizes(sheet));
         let above = |r: &mut Random| match r.below(4) {
             0 => MAX_LIMIT,
             _ => total + r.between(1, 3),
         };
         for limits in [[total; 2], [above(r), above(r)]] {
-            self.ample += pair.same_with(r, sheet, limits, &[Aware, Plain])?;
+            let calls = pair.same_with(r, sheet, limits, &[Aware, Plain])?;
+            self.ample += calls;
+            self.ample_work += if total > files { calls } else { 0 };
         }
         self.zero += pair.same_with(r, sheet, [0; 2], &[Plain])?;
         if total > 0 {
@@ -364,6 +384,15 @@ impl Row {
             limits[r.below(2)] -= 1;
             let aware = pair.aware_with(sheet, limits)?;
             self.less.count(pair.plain, &aware);
+        }
+        if total > files {
+            let limit = if r.one_in(2) {
+                files
+            } else {
+                r.between(files, total - 1)
+            };
+            let aware = pair.aware_with(sheet, [limit; 2])?;
+            self.sizes_alone.count(pair.plain, &aware);
         }
         Ok(())
     }
@@ -383,8 +412,9 @@ impl Row {
     }
 
     /// What must have been reached.
-    fn due(&self) -> [(&'static str, u64); 12] {
+    fn due(&self) -> [(&'static str, u64); 15] {
         let (own, at_peaks) = (self.own, self.at_peaks);
+        let (less, sizes_alone) = (self.less, self.sizes_alone);
         [
             ("plans accepted", self.accepted),
             ("plans refused by 17", self.over),
@@ -392,12 +422,12 @@ impl Row {
             ("the same plan by the memory-aware planner", own.same),
             ("another plan by the memory-aware planner", own.other),
             ("the memory-aware planner stuck", own.stuck),
-            ("limits of the sum of all sizes or more", self.ample),
+            ("limits of the sum of sizes and W or more", self.ample),
+            ("the same on sheets with W", self.ample_work),
             ("limits of 0", self.zero),
-            (
-                "the sum of all sizes less one block, another plan",
-                self.less.other,
-            ),
+            ("the sum less one block, another plan", less.other),
+            ("the sizes without all W, another plan", sizes_alone.other),
+            ("the sizes without all W, stuck", sizes_alone.stuck),
             ("limits of the peaks, the same plan", at_peaks.same),
             ("limits of the peaks, another plan", at_peaks.other),
             ("one block less than a peak, refused by 17", self.below_peak),
@@ -476,15 +506,18 @@ mod tests {
         }
     }
 
-    /// A sheet by chance, with relays.
+    /// A sheet by chance, with relays, half the time with W.
     fn drawn(r: &mut Random, tasks: usize) -> (String, Sheet) {
         let text = generate::sheet(r, tasks);
-        let text = generate::with_relays(r, &text);
+        let mut text = generate::with_relays(r, &text);
+        if r.one_in(2) {
+            text = generate::with_work(r, &text);
+        }
         let sheet = read_sheet(text.as_bytes()).unwrap();
         (text, sheet)
     }
 
-    /// What is counted from the lines is what the marker of reference.rs finds, with relays and tight limits too.
+    /// What is counted from the lines is what the marker of reference.rs finds, with relays, W and tight limits too.
     #[test]
     fn counted_from_the_lines() {
         let mut r = Random(4);
@@ -506,7 +539,7 @@ mod tests {
         let mut r = Random(5);
         for number in 0..300 {
             let (_, sheet) = drawn(&mut r, 9);
-            let text = with_limits(&sheet, [sizes(&sheet) + number % 2; 2]);
+            let text = with_limits(&sheet, [ample(&sheet) + number % 2; 2]);
             for heuristic in [Heft, MinMin] {
                 let [plain, aware] =
                     [Plain, Aware].map(|memory| by_reference(heuristic.with(memory), &text, 2000));

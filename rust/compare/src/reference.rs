@@ -1,4 +1,4 @@
-//! An implementation of document 01 with Orders 1, 2, 4 and 5 for tests, written from the documents in another way than the proved code:
+//! An implementation of document 01 with Orders 1, 2, 4, 5 and 6 for tests, written from the documents in another way than the proved code:
 //! texts are split into words, memory is a list of changes sorted by tick, weights are by recursion.
 //!
 //! What a planner tries and places, and the marker's 16, go by Order 2's four cases of maker and reader. Which move lines are due and
@@ -29,6 +29,9 @@ pub const MAX_LIMIT: i64 = 999_999_999;
 /// F: a file's size.
 pub const MAX_SIZE: i64 = 1_000_000;
 
+/// W: a task's working memory, at least 1 where it is written.
+pub const MAX_WORK: i64 = 1_000_000;
+
 /// The limits that Order 5 made wider.
 #[derive(Clone, Copy, Debug, PartialEq, Eq)]
 pub struct Widths {
@@ -58,6 +61,26 @@ pub const CURRENT: Widths = Widths {
     tick: 999_999_999_999,
 };
 
+/// By which rules texts are read.
+#[derive(Clone, Copy, Debug, PartialEq, Eq)]
+pub struct Rules {
+    pub widths: Widths,
+    /// whether a task line may have W
+    pub work: bool,
+}
+
+/// The present rules.
+pub const PRESENT: Rules = Rules {
+    widths: CURRENT,
+    work: true,
+};
+
+/// Before Order 6.
+pub const WITHOUT_WORK: Rules = Rules {
+    widths: CURRENT,
+    work: false,
+};
+
 pub type Refused = (u64, u64);
 
 /// The colour of a processor and its memory; blue is before red.
@@ -79,11 +102,18 @@ pub struct File {
 }
 
 #[derive(Clone, Debug)]
+pub struct Task {
+    /// run times on blue and on red
+    pub times: [i64; 2],
+    /// W, the working memory; 0 if it is left out
+    pub work: i64,
+}
+
+#[derive(Clone, Debug)]
 pub struct Sheet {
     pub processors: [i64; 2],
     pub limits: [i64; 2],
-    /// run times on blue and on red
-    pub tasks: Vec<[i64; 2]>,
+    pub tasks: Vec<Task>,
     pub files: Vec<File>,
 }
 
@@ -107,11 +137,12 @@ fn lines(text: &[u8]) -> Vec<(&[u8], bool)> {
     all
 }
 
-/// The three forms of a sheet's lines, and of a timetable's, with `#` for a number.
-pub const SHEET_FORMS: [&str; 3] = [
+/// The forms of a sheet's lines, and of a timetable's, with `#` for a number. A task line is written in two ways: without W, and with it.
+pub const SHEET_FORMS: [&str; 4] = [
     "(board (blue # #) (red # #))",
     "(task # # #)",
     "(file # # # #)",
+    "(task # # # #)",
 ];
 pub const TABLE_FORMS: [&str; 3] = ["(run # # #)", "(move # # #)", "(claim # # #)"];
 
@@ -148,57 +179,62 @@ fn all_in(pairs: &[(i64, i64, i64)]) -> bool {
     pairs.iter().all(|(n, least, most)| least <= n && n <= most)
 }
 
-/// What makes a line readable: the three forms, the most digits of a number, and the ranges of each form's numbers.
+/// The least and the greatest value of a number.
+type Range = (i64, i64);
+
+/// What makes a line readable: the forms, each with the ranges of its numbers, and the most digits of a number.
 struct Reading {
-    forms: [&'static str; 3],
+    forms: Vec<(&'static str, Vec<Range>)>,
     digits: usize,
-    ranges: [Vec<(i64, i64)>; 3],
     /// 0 for a sheet and 10 for a timetable
     base: u64,
 }
 
 impl Reading {
-    fn of_sheet(widths: Widths) -> Reading {
+    fn of_sheet(rules: Rules) -> Reading {
+        let widths = rules.widths;
         let (processors, limit) = ((1, MAX_PROCESSORS), (0, MAX_LIMIT));
-        let (task, size) = ((1, MAX_TASKS), (0, MAX_SIZE));
+        let (task, size, work) = ((1, MAX_TASKS), (0, MAX_SIZE), (1, MAX_WORK));
         let (run_time, move_time) = ((0, widths.run_time), (1, widths.move_time));
+        let ranges = [
+            vec![processors, limit, processors, limit],
+            vec![task, run_time, run_time],
+            vec![task, task, size, move_time],
+            vec![task, run_time, run_time, work],
+        ];
+        let known = if rules.work { 4 } else { 3 };
         Reading {
-            forms: SHEET_FORMS,
+            forms: SHEET_FORMS.into_iter().zip(ranges).take(known).collect(),
             digits: widths.digits,
-            ranges: [
-                vec![processors, limit, processors, limit],
-                vec![task, run_time, run_time],
-                vec![task, task, size, move_time],
-            ],
             base: 0,
         }
     }
 
-    fn of_table(widths: Widths, sheet: &Sheet) -> Reading {
+    fn of_table(rules: Rules, sheet: &Sheet) -> Reading {
         let processor = (1, sheet.processors[0] + sheet.processors[1]);
-        let (task, tick) = ((1, MAX_TASKS), (0, widths.tick));
+        let (task, tick) = ((1, MAX_TASKS), (0, rules.widths.tick));
+        let ranges = [
+            vec![task, processor, tick],
+            vec![task, task, tick],
+            vec![tick, tick, tick],
+        ];
         Reading {
-            forms: TABLE_FORMS,
-            digits: widths.digits,
-            ranges: [
-                vec![task, processor, tick],
-                vec![task, task, tick],
-                vec![tick, tick, tick],
-            ],
+            forms: TABLE_FORMS.into_iter().zip(ranges).collect(),
+            digits: rules.widths.digits,
             base: 10,
         }
     }
 
-    /// A readable line: which of the three forms, and its numbers.
+    /// A readable line: which of the forms, and its numbers.
     fn line(&self, (line, ended): (&[u8], bool)) -> Result<(usize, Vec<i64>), u64> {
         if !ended {
             return Err(self.base + 2);
         }
-        for (kind, form) in self.forms.iter().enumerate() {
+        for (kind, (form, ranges)) in self.forms.iter().enumerate() {
             if let Some(vs) = numbers(line, form, self.digits) {
                 let pairs: Vec<(i64, i64, i64)> = vs
                     .iter()
-                    .zip(&self.ranges[kind])
+                    .zip(ranges)
                     .map(|(v, (a, b))| (*v, *a, *b))
                     .collect();
                 return if all_in(&pairs) {
@@ -213,15 +249,15 @@ impl Reading {
 }
 
 pub fn read_sheet(text: &[u8]) -> Result<Sheet, Refused> {
-    read_sheet_by(CURRENT, text)
+    read_sheet_by(PRESENT, text)
 }
 
-/// The reading of a sheet by former or by present limits.
-pub fn read_sheet_by(widths: Widths, text: &[u8]) -> Result<Sheet, Refused> {
+/// The reading of a sheet by former or by present rules.
+pub fn read_sheet_by(rules: Rules, text: &[u8]) -> Result<Sheet, Refused> {
     if text.len() > MAX_TEXT {
         return Err((1, 0));
     }
-    let reading = Reading::of_sheet(widths);
+    let reading = Reading::of_sheet(rules);
     let mut sheet: Option<Sheet> = None;
     let all = lines(text);
     for (at, line) in all.iter().enumerate() {
@@ -236,8 +272,11 @@ pub fn read_sheet_by(widths: Widths, text: &[u8]) -> Result<Sheet, Refused> {
                     files: vec![],
                 })
             }
-            (Some(s), 1) if s.files.is_empty() && v[0] == s.tasks.len() as i64 + 1 => {
-                s.tasks.push([v[1], v[2]])
+            (Some(s), 1 | 3) if s.files.is_empty() && v[0] == s.tasks.len() as i64 + 1 => {
+                s.tasks.push(Task {
+                    times: [v[1], v[2]],
+                    work: v.get(3).copied().unwrap_or(0),
+                })
             }
             (Some(s), 2) if s.allows_file(v[0], v[1]) => s.files.push(File {
                 maker: v[0] as usize - 1,
@@ -273,7 +312,7 @@ impl Sheet {
     }
 
     pub fn run_time(&self, i: usize, colour: Colour) -> i64 {
-        self.tasks[i][colour as usize]
+        self.tasks[i].times[colour as usize]
     }
 }
 
@@ -283,19 +322,19 @@ pub struct Claim {
 }
 
 pub fn read_table(sheet: &Sheet, text: &[u8]) -> Result<(Table, Claim), Refused> {
-    read_table_by(CURRENT, sheet, text)
+    read_table_by(PRESENT, sheet, text)
 }
 
-/// The reading of a timetable by former or by present limits.
+/// The reading of a timetable by former or by present rules.
 pub fn read_table_by(
-    widths: Widths,
+    rules: Rules,
     sheet: &Sheet,
     text: &[u8],
 ) -> Result<(Table, Claim), Refused> {
     if text.len() > MAX_TEXT {
         return Err((11, 0));
     }
-    let reading = Reading::of_table(widths, sheet);
+    let reading = Reading::of_table(rules, sheet);
     let all = lines(text);
     let mut at = 0;
     let mut next = |due: &dyn Fn(usize, &[i64]) -> bool| -> Result<Vec<i64>, Refused> {
@@ -389,7 +428,7 @@ pub fn finish(sheet: &Sheet, table: &Table, i: usize) -> i64 {
     s + sheet.run_time(i, sheet.colour(p))
 }
 
-/// Until when the inputs of a run are held in its memory: its finish; until s + 1 for a run of time 0 at s.
+/// Until when the inputs of a run and its W are held in its memory: its finish; until s + 1 for a run of time 0 at s.
 pub fn release(sheet: &Sheet, table: &Table, i: usize) -> i64 {
     let (p, s) = run(table, i);
     match sheet.run_time(i, sheet.colour(p)) {
@@ -403,7 +442,7 @@ fn share(sheet: &Sheet, table: &Table, i: usize, j: usize) -> bool {
     run(table, i).1 < finish(sheet, table, j) && run(table, j).1 < finish(sheet, table, i)
 }
 
-/// The holds of one memory: size, first tick, and the tick at which it ends, if it does.
+/// The holds of one memory, of files and of each W that is not left out: size, first tick, and the tick at which it ends, if it does.
 fn holds(sheet: &Sheet, table: &Table, colour: Colour) -> Vec<(i64, i64, Option<i64>)> {
     let mut all = vec![];
     for (k, f) in sheet.files.iter().enumerate() {
@@ -426,6 +465,14 @@ fn holds(sheet: &Sheet, table: &Table, colour: Colour) -> Vec<(i64, i64, Option<
                     all.push((f.size, t, Some(end)));
                 }
             }
+        }
+    }
+    for (i, task) in sheet.tasks.iter().enumerate() {
+        match table.runs[i] {
+            Some((p, s)) if task.work > 0 && sheet.colour(p) == colour => {
+                all.push((task.work, s, Some(release(sheet, table, i))))
+            }
+            _ => {}
         }
     }
     all
@@ -507,17 +554,17 @@ pub fn fault(sheet: &Sheet, table: &Table) -> Option<Refused> {
 
 /// The marker: number, place, span and peaks.
 pub fn mark(sheet: &[u8], paper: &[u8]) -> [u64; 5] {
-    mark_by(CURRENT, sheet, paper)
+    mark_by(PRESENT, sheet, paper)
 }
 
-/// The marker by former or by present limits.
-pub fn mark_by(widths: Widths, sheet: &[u8], paper: &[u8]) -> [u64; 5] {
+/// The marker by former or by present rules.
+pub fn mark_by(rules: Rules, sheet: &[u8], paper: &[u8]) -> [u64; 5] {
     let refused = |r: Refused| [r.0, r.1, 0, 0, 0];
-    let sheet = match read_sheet_by(widths, sheet) {
+    let sheet = match read_sheet_by(rules, sheet) {
         Ok(s) => s,
         Err(r) => return refused(r),
     };
-    let (table, claim) = match read_table_by(widths, &sheet, paper) {
+    let (table, claim) = match read_table_by(rules, &sheet, paper) {
         Ok(t) => t,
         Err(r) => return refused(r),
     };
@@ -586,8 +633,30 @@ pub const PLANNERS: [Planner; 4] = [
     MinMin.with(Aware),
 ];
 
+/// What a planner met in its trials.
+#[derive(Clone, Copy, Debug, Default)]
+pub struct Met {
+    /// the files read, by the colours of their maker and of the trial
+    pub files: ByCase,
+    /// trials with a later start than they would have if start 3 did not ask for W
+    pub later: u64,
+    /// trials that do not fit, and would if start 3 did not ask for W
+    pub unfit: u64,
+}
+
 /// A task that a round would place, with its finish, colour and start.
 type Choice = (i64, usize, Colour, i64);
+
+impl Met {
+    /// A trial with a start by the other starts, and with start 3 by the files alone and with W.
+    fn work(&mut self, start: i64, files_alone: Option<i64>, running: Option<i64>) {
+        match (files_alone, running) {
+            (Some(_), None) => self.unfit += 1,
+            (Some(t), Some(with_work)) if start.max(t) < with_work => self.later += 1,
+            _ => {}
+        }
+    }
+}
 
 struct State<'a> {
     sheet: &'a Sheet,
@@ -595,7 +664,7 @@ struct State<'a> {
     table: Table,
     last: Vec<i64>,
     trials: u64,
-    met: ByCase,
+    met: Met,
 }
 
 impl<'a> State<'a> {
@@ -610,7 +679,7 @@ impl<'a> State<'a> {
             },
             last: vec![0; (sheet.processors[0] + sheet.processors[1]) as usize],
             trials: 0,
-            met: ByCase::default(),
+            met: Met::default(),
         }
     }
 
@@ -661,7 +730,7 @@ impl<'a> State<'a> {
             arrived = arrived.max(finish(self.sheet, &self.table, f.maker) + time);
             longest = longest.max(time);
             newly += newly_held(maker, colour, f);
-            self.met[maker as usize][colour as usize] += 1;
+            self.met.files[maker as usize][colour as usize] += 1;
         }
         let made: i64 = self
             .sheet
@@ -675,9 +744,15 @@ impl<'a> State<'a> {
         match self.memory {
             Plain => Some(start),
             Aware => {
-                let running = self.free_from(colour, newly + made)?;
+                let work = self.sheet.tasks[i].work;
+                let running = self.free_from(colour, newly + made + work);
                 let moving = self.free_from(colour, newly)? + longest;
-                Some(start.max(running).max(moving))
+                let start = start.max(moving);
+                if work > 0 {
+                    let files_alone = self.free_from(colour, newly + made);
+                    self.met.work(start, files_alone, running);
+                }
+                Some(start.max(running?))
             }
         }
     }
@@ -760,7 +835,8 @@ fn weight(sheet: &Sheet, i: usize, known: &mut Vec<Option<i64>>) -> i64 {
         .map(|f| f.time + weight(sheet, f.reader, known))
         .max()
         .unwrap_or(0);
-    let w = sheet.tasks[i][0] + sheet.tasks[i][1] + behind;
+    let [blue, red] = sheet.tasks[i].times;
+    let w = blue + red + behind;
     known[i] = Some(w);
     w
 }
@@ -778,13 +854,17 @@ pub struct Planned {
     pub number: u64,
     pub place: u64,
     pub trials: u64,
-    /// the files read in the trials, by the colours of their maker and of the trial
-    pub met: ByCase,
+    pub met: Met,
     pub text: Vec<u8>,
 }
 
 /// A planner on a sheet. 31 is left to the caller.
 pub fn plan(planner: Planner, text: &[u8]) -> Planned {
+    plan_by(PRESENT, planner, text)
+}
+
+/// A planner by former or by present rules.
+pub fn plan_by(rules: Rules, planner: Planner, text: &[u8]) -> Planned {
     let refused = |r: Refused, trials, met| Planned {
         number: r.0,
         place: r.1,
@@ -792,9 +872,9 @@ pub fn plan(planner: Planner, text: &[u8]) -> Planned {
         met,
         text: vec![],
     };
-    let sheet = match read_sheet(text) {
+    let sheet = match read_sheet_by(rules, text) {
         Ok(s) => s,
-        Err(r) => return refused(r, 0, ByCase::default()),
+        Err(r) => return refused(r, 0, Met::default()),
     };
     let mut s = State::new(&sheet, planner.memory);
     if let Err(placed) = s.place_all(planner.heuristic) {

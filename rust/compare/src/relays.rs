@@ -1,6 +1,6 @@
 //! Where relays stand in timetables, told from the timetables alone, and how often each kind got which answer.
 
-use crate::generate::sizes;
+use crate::generate::ample;
 use crate::reference::{read_sheet, read_table, Planned, Sheet, Table};
 use std::collections::BTreeMap;
 
@@ -20,7 +20,7 @@ const ANSWERS: [u64; 5] = [0, 15, 16, 17, 18];
 
 /// Whether a sheet has a run time of 0.
 pub fn has_relays(sheet: &Sheet) -> bool {
-    sheet.tasks.iter().any(|t| t.contains(&0))
+    sheet.tasks.iter().any(|t| t.times.contains(&0))
 }
 
 /// Processor, start and run time of each task.
@@ -72,17 +72,20 @@ pub fn kinds(sheet: &Sheet, table: &Table) -> [bool; 5] {
     shown
 }
 
-/// The span, and what each memory holds at it: the files that relays read there.
+/// The span, and what each memory holds at it: the files that relays read there, and the relays' W.
 fn held_at_span(sheet: &Sheet, table: &Table) -> (i64, [i64; 2]) {
     let runs = runs(sheet, table);
     let end = end(&runs);
     let mut held = [0, 0];
-    for f in &sheet.files {
-        let (p, s, time) = runs[f.reader];
+    let mut hold = |i: usize, size: i64| {
+        let (p, s, time) = runs[i];
         if (s, time) == (end, 0) {
-            held[sheet.colour(p) as usize] += f.size;
+            held[sheet.colour(p) as usize] += size;
         }
-    }
+    };
+    sheet.files.iter().for_each(|f| hold(f.reader, f.size));
+    let tasks = sheet.tasks.iter().enumerate();
+    tasks.for_each(|(i, task)| hold(i, task.work));
     (end, held)
 }
 
@@ -90,7 +93,7 @@ fn held_at_span(sheet: &Sheet, table: &Table) -> (i64, [i64; 2]) {
 #[derive(Default)]
 pub struct Counts {
     answers: [BTreeMap<u64, u64>; 5],
-    /// papers with files held at the span: accepted with a limit equal to that, refused by 17 at the span with a limit of one less
+    /// papers with something held at the span: accepted with a limit equal to that, refused by 17 at the span with a limit of one less
     at_span: (u64, u64),
     /// papers on which 15 was answered, and which have neither a relay inside another run nor two runs at one tick; or the other way round
     misjudged: u64,
@@ -100,7 +103,7 @@ pub struct Counts {
     colours: [u64; 3],
     /// planned timetables in which a relay runs
     planned: u64,
-    /// on sheets with relays, both limits equal to the sum of file sizes: planned, and stuck
+    /// on sheets with relays, both limits equal to the sum of all file sizes and all W: planned, and stuck
     ample: (u64, u64),
 }
 
@@ -115,7 +118,7 @@ impl Counts {
             let shown = sheet
                 .tasks
                 .iter()
-                .any(|t| t.map(|time| time == 0) == *wanted);
+                .any(|t| t.times.map(|time| time == 0) == *wanted);
             self.colours[colour] += u64::from(shown);
         }
     }
@@ -147,7 +150,7 @@ impl Counts {
         if !has_relays(&sheet) {
             return;
         }
-        if sheet.limits == [sizes(&sheet); 2] {
+        if sheet.limits == [ample(&sheet); 2] {
             self.ample.0 += u64::from(answer.number == 0);
             self.ample.1 += u64::from(answer.number == 21);
         }
@@ -184,7 +187,7 @@ impl Counts {
         );
         println!("planned timetables with a relay: {}", self.planned);
         println!(
-            "sheets with relays, limits equal to the sum of all file sizes: {} planned, {} stuck",
+            "sheets with relays, limits equal to the sum of all file sizes and all W: {} planned, {} stuck",
             self.ample.0, self.ample.1
         );
     }
@@ -223,11 +226,11 @@ impl Counts {
             (self.planned == 0, "no planned timetable had a relay"),
             (
                 self.ample.0 == 0,
-                "limits equal to the sum of all file sizes: never planned",
+                "limits equal to the sum of all file sizes and all W: never planned",
             ),
             (
                 self.ample.1 > 0,
-                "limits equal to the sum of all file sizes: a planner is stuck",
+                "limits equal to the sum of all file sizes and all W: a planner is stuck",
             ),
         ];
         all.extend(checks.iter().filter(|c| c.0).map(|c| c.1.to_string()));

@@ -1,8 +1,9 @@
-//! Order 3 for tests, written from document 02's words in another way than the proved code: the whole trace of a timetable is laid out
+//! Order 3, with Order 6's working memory, for tests, written from document 02's words in another way than the proved code: the whole trace of a timetable is laid out
 //! first, every tick of it and its first faulty one; a call's steps are then counted off.
 
 use crate::reference::{
-    colours, finish, read_sheet, read_table, release, span, Refused, Sheet, Table,
+    colours, finish, read_sheet_by, read_table_by, release, span, Refused, Rules, Sheet, Table,
+    PRESENT,
 };
 use std::collections::BTreeSet;
 
@@ -63,6 +64,29 @@ struct Run {
     at: Stretch,
 }
 
+/// The W of a run, held in blue (0) or in red (1).
+struct Work {
+    memory: usize,
+    size: i64,
+    held: Stretch,
+}
+
+impl Work {
+    /// None if W is left out.
+    fn new(sheet: &Sheet, table: &Table, i: usize) -> Option<Work> {
+        let (processor, from) = table.runs[i].unwrap();
+        let work = Work {
+            memory: sheet.colour(processor) as usize,
+            size: sheet.tasks[i].work,
+            held: Stretch {
+                from,
+                until: release(sheet, table, i),
+            },
+        };
+        (work.size > 0).then_some(work)
+    }
+}
+
 /// A file, its move if it is moved, and its holds in blue and in red.
 struct Track {
     size: i64,
@@ -116,6 +140,7 @@ impl Track {
 struct Timeline {
     limits: [i64; 2],
     runs: Vec<Run>,
+    works: Vec<Work>,
     files: Vec<Track>,
 }
 
@@ -132,6 +157,9 @@ impl Timeline {
         Timeline {
             limits: sheet.limits,
             runs: (0..sheet.tasks.len()).map(run).collect(),
+            works: (0..sheet.tasks.len())
+                .filter_map(|i| Work::new(sheet, table, i))
+                .collect(),
             files: (0..sheet.files.len())
                 .map(|k| Track::new(sheet, table, k))
                 .collect(),
@@ -142,7 +170,8 @@ impl Timeline {
     fn ticks(&self) -> BTreeSet<i64> {
         let runs = self.runs.iter().map(|r| r.at);
         let moves = self.files.iter().filter_map(|f| f.moved);
-        let holds = self.files.iter().flat_map(|f| f.held.into_iter().flatten());
+        let files = self.files.iter().flat_map(|f| f.held.into_iter().flatten());
+        let holds = files.chain(self.works.iter().map(|w| w.held));
         let stretches = runs.chain(moves).chain(holds.filter(|h| h.from < h.until));
         stretches.flat_map(|s| [s.from, s.until]).collect()
     }
@@ -150,7 +179,9 @@ impl Timeline {
     /// Whether a tick is one of these, told by looking at it and at the tick before.
     fn is_tick(&self, tick: i64) -> bool {
         let bounds = |s: Stretch| s.from == tick || s.until == tick;
+        let turns = |s: Stretch| s.has(tick) != s.has(tick - 1);
         self.runs.iter().any(|r| bounds(r.at))
+            || self.works.iter().any(|w| turns(w.held))
             || self
                 .files
                 .iter()
@@ -164,6 +195,9 @@ impl Timeline {
             for (c, held) in f.held_at(tick).iter().enumerate() {
                 total[c] += if *held { f.size } else { 0 };
             }
+        }
+        for w in self.works.iter().filter(|w| w.held.has(tick)) {
+            total[w.memory] += w.size;
         }
         total
     }
@@ -231,8 +265,13 @@ impl Trace {
 
     /// The trace of two texts; refused where one of them is.
     pub fn read(sheet: &[u8], paper: &[u8]) -> Result<Trace, Refused> {
-        let sheet = read_sheet(sheet)?;
-        let (table, _) = read_table(&sheet, paper)?;
+        Trace::read_by(PRESENT, sheet, paper)
+    }
+
+    /// The same by former or by present rules.
+    pub fn read_by(rules: Rules, sheet: &[u8], paper: &[u8]) -> Result<Trace, Refused> {
+        let sheet = read_sheet_by(rules, sheet)?;
+        let (table, _) = read_table_by(rules, &sheet, paper)?;
         Ok(Trace::new(&sheet, &table))
     }
 
@@ -334,7 +373,12 @@ impl Trace {
 
 /// A call on two texts.
 pub fn simulate(sheet: &[u8], paper: &[u8], made: u64, steps: u64) -> Answer {
-    match Trace::read(sheet, paper) {
+    simulate_by(PRESENT, sheet, paper, made, steps)
+}
+
+/// A call by former or by present rules.
+pub fn simulate_by(rules: Rules, sheet: &[u8], paper: &[u8], made: u64, steps: u64) -> Answer {
+    match Trace::read_by(rules, sheet, paper) {
         Ok(trace) => trace.answer(made, steps),
         Err(refused) => Answer::before_first(refused),
     }

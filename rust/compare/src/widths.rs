@@ -1,14 +1,20 @@
 //! What Order 5 promises of old papers and of the planners' timetables, looked at in the library's answers. Old papers keep their marks
 //! except those refused for a number too long or too large: which these are is told from the refused line by code of its own, and the mark
-//! by the former limits is that of reference.rs. How often each kind was reached.
+//! by the former limits is that of reference.rs. A W may be written with the former limits too. How often each kind was reached.
 
 use crate::edges::known;
 use crate::library::{self, Answered};
 use crate::reference::{
-    self, mark_by, read_sheet, read_sheet_by, read_table, span, Sheet, CURRENT, FORMER, MAX_SIZE,
-    MAX_TASKS, SHEET_FORMS, TABLE_FORMS,
+    self, mark_by, read_sheet, read_sheet_by, read_table, span, Rules, Sheet, Task, CURRENT,
+    FORMER, MAX_SIZE, MAX_TASKS, MAX_WORK, SHEET_FORMS, TABLE_FORMS,
 };
 use std::collections::BTreeMap;
+
+/// The former limits, with the present forms.
+pub const NARROW: Rules = Rules {
+    widths: FORMER,
+    work: true,
+};
 
 /// Why a mark by the former limits is another now.
 #[derive(Clone, Copy, Debug, PartialEq, Eq)]
@@ -33,14 +39,14 @@ const CAUSES: [(Cause, &str, u64); 3] = [
 const NUMBERS: [u64; 13] = [0, 1, 2, 3, 4, 11, 12, 13, 14, 15, 16, 17, 18];
 
 /// A line, counted from 1, if the text has it with its LF; without the LF.
-fn ended_line(text: &[u8], place: u64) -> Option<&[u8]> {
+pub fn ended_line(text: &[u8], place: u64) -> Option<&[u8]> {
     let at = (place as usize).checked_sub(1)?;
     let line = text.split_inclusive(|b| *b == b'\n').nth(at)?;
     line.strip_suffix(b"\n")
 }
 
-/// Which of three forms a line is, whatever its numbers, and their digits.
-fn form<'a>(line: &'a [u8], forms: [&str; 3]) -> Option<(usize, Vec<&'a [u8]>)> {
+/// Which of some forms a line is, whatever its numbers, and their digits.
+pub fn form<'a>(line: &'a [u8], forms: &[&str]) -> Option<(usize, Vec<&'a [u8]>)> {
     let parts = |digits: bool| {
         let parts = line.split(move |b| b.is_ascii_digit() != digits);
         parts.filter(|p| !p.is_empty()).collect::<Vec<_>>()
@@ -54,7 +60,7 @@ fn form<'a>(line: &'a [u8], forms: [&str; 3]) -> Option<(usize, Vec<&'a [u8]>)> 
 }
 
 /// Whether a line is one of the forms with numbers of up to the present digits and no leading zero, one of them longer than it could be.
-fn too_long(line: &[u8], forms: [&str; 3]) -> bool {
+fn too_long(line: &[u8], forms: &[&str]) -> bool {
     let Some((_, numerals)) = form(line, forms) else {
         return false;
     };
@@ -63,29 +69,30 @@ fn too_long(line: &[u8], forms: [&str; 3]) -> bool {
 }
 
 /// The digits of the longest numeral, if none has a leading zero.
-fn longest_numeral(numerals: &[&[u8]]) -> Option<usize> {
+pub fn longest_numeral(numerals: &[&[u8]]) -> Option<usize> {
     let zero = numerals.iter().any(|n| n.len() > 1 && n[0] == b'0');
     let longest = numerals.iter().map(|n| n.len()).max();
     longest.filter(|_| !zero)
 }
 
 /// The value of a numeral; one that is too long for the type is greater than each limit.
-fn value(numeral: &[u8]) -> i64 {
+pub fn value(numeral: &[u8]) -> i64 {
     let digits = std::str::from_utf8(numeral).expect("digits");
     digits.parse().unwrap_or(i64::MAX)
 }
 
 /// Whether each number of a task or file line is in its present range, and a time over the former one.
 fn too_large(line: &[u8]) -> bool {
-    let Some((kind, numerals)) = form(line, SHEET_FORMS) else {
+    let Some((kind, numerals)) = form(line, &SHEET_FORMS) else {
         return false;
     };
     let numbers: Vec<i64> = numerals.iter().map(|n| value(n)).collect();
     let task = |i: i64| (1..=MAX_TASKS).contains(&i);
     match (kind, &numbers[..]) {
-        (1, [i, b, r]) => {
+        (1 | 3, [i, b, r, work @ ..]) => {
             let greater = *b.max(r);
-            task(*i) && FORMER.run_time < greater && greater <= CURRENT.run_time
+            let time = FORMER.run_time < greater && greater <= CURRENT.run_time;
+            task(*i) && time && work.iter().all(|w| (1..=MAX_WORK).contains(w))
         }
         (2, [i, j, f, c]) => {
             let time = FORMER.move_time < *c && *c <= CURRENT.move_time;
@@ -101,11 +108,11 @@ fn cause(sheet: &[u8], paper: &[u8], former: [u64; 5]) -> Option<Cause> {
     let line = |text| ended_line(text, place);
     match number {
         2 => line(sheet)
-            .filter(|l| too_long(l, SHEET_FORMS))
+            .filter(|l| too_long(l, &SHEET_FORMS))
             .map(|_| LongOnSheet),
         3 => line(sheet).filter(|l| too_large(l)).map(|_| Large),
         12 => line(paper)
-            .filter(|l| too_long(l, TABLE_FORMS))
+            .filter(|l| too_long(l, &TABLE_FORMS))
             .map(|_| LongInTable),
         _ => None,
     }
@@ -196,10 +203,10 @@ impl Written {
 /// A span that no planner exceeds: each task ends at most its longest run past the longest move of a file that it reads, which starts when
 /// all that is placed is over.
 fn longest_span(sheet: &Sheet) -> i64 {
-    let task = |(i, times): (usize, &[i64; 2])| {
+    let task = |(i, task): (usize, &Task)| {
         let read = sheet.files.iter().filter(|f| f.reader == i);
         let moved = read.map(|f| f.time).max().unwrap_or(0);
-        moved + times[0].max(times[1]).max(1)
+        moved + task.times[0].max(task.times[1]).max(1)
     };
     sheet.tasks.iter().enumerate().map(task).sum()
 }
@@ -234,8 +241,8 @@ impl Edges {
     /// Texts that are refused.
     fn refused(&mut self, sheet: &[u8], paper: &[u8], [number, place, ..]: [u64; 5]) {
         match number {
-            2 => self.longer[0] += u64::from(one_digit_more(sheet, place, SHEET_FORMS)),
-            12 => self.longer[1] += u64::from(one_digit_more(paper, place, TABLE_FORMS)),
+            2 => self.longer[0] += u64::from(one_digit_more(sheet, place, &SHEET_FORMS)),
+            12 => self.longer[1] += u64::from(one_digit_more(paper, place, &TABLE_FORMS)),
             _ => {}
         }
     }
@@ -252,7 +259,8 @@ impl Edges {
             self.past += u64::from(span > CURRENT.tick);
             return;
         }
-        let run = sheet.tasks.iter().flatten().any(|t| *t == CURRENT.run_time);
+        let mut runs = sheet.tasks.iter().flat_map(|t| t.times);
+        let run = runs.any(|time| time == CURRENT.run_time);
         let moved = sheet.files.iter().any(|f| f.time == CURRENT.move_time);
         self.greatest_time += u64::from(run || moved);
         let relay = table.runs.iter().any(|run| run.unwrap().1 == span);
@@ -262,7 +270,7 @@ impl Edges {
 }
 
 /// Whether a line is one of the forms but for a number of one digit too many, and has no longer one.
-fn one_digit_more(text: &[u8], place: u64, forms: [&str; 3]) -> bool {
+fn one_digit_more(text: &[u8], place: u64, forms: &[&str]) -> bool {
     let line = ended_line(text, place).and_then(|line| form(line, forms));
     line.is_some_and(|(_, numerals)| longest_numeral(&numerals) == Some(CURRENT.digits + 1))
 }
@@ -270,7 +278,7 @@ fn one_digit_more(text: &[u8], place: u64, forms: [&str; 3]) -> bool {
 impl Counts {
     /// Two texts and the marker's answer to them; an error where an old paper's mark is another and must not be, or the other way round.
     pub fn marked(&mut self, sheet: &[u8], paper: &[u8], mark: [u64; 5]) -> Result<(), String> {
-        let former = mark_by(FORMER, sheet, paper);
+        let former = mark_by(NARROW, sheet, paper);
         self.edges.refused(sheet, paper, mark);
         let Some(cause) = judged(sheet, paper, former, mark)? else {
             *self.kept.entry(mark[0]).or_default() += 1;
@@ -293,7 +301,7 @@ impl Counts {
             1..=4 => refusal(number, place),
             _ => refusal(0, 0),
         };
-        let former = read_sheet_by(FORMER, text);
+        let former = read_sheet_by(NARROW, text);
         let then = former.as_ref().err().map_or([0; 5], |r| refusal(r.0, r.1));
         judged(text, b"", then, now)?;
         let Ok(sheet) = read_sheet(text) else {
@@ -312,7 +320,7 @@ impl Counts {
     /// Holds the library and reference.rs against the known marks.
     pub fn by_hand(&mut self) -> Result<(), String> {
         for texts in known() {
-            texts.hold(FORMER, |sheet, paper| mark_by(FORMER, sheet, paper))?;
+            texts.hold(FORMER, |sheet, paper| mark_by(NARROW, sheet, paper))?;
             texts.hold(CURRENT, reference::mark)?;
             texts.hold(CURRENT, library::mark)?;
             self.known += 1;
@@ -402,9 +410,11 @@ mod tests {
             "(task 1 1 999999999999)",
             "(board (blue 1 1) (red 1000000000 1))",
             "(file 1 2 0 1234567890)",
+            "(task 1 1 1 1000000000)",
+            "(task 1 1000000000 1 1)",
         ] {
-            assert!(too_long(line.as_bytes(), SHEET_FORMS), "{line}");
-            assert!(!too_long(line.as_bytes(), TABLE_FORMS), "{line}");
+            assert!(too_long(line.as_bytes(), &SHEET_FORMS), "{line}");
+            assert!(!too_long(line.as_bytes(), &TABLE_FORMS), "{line}");
         }
         for line in [
             "",
@@ -418,10 +428,12 @@ mod tests {
             "(task 1 1000000000 1)1",
             "(task 1 1000000000 1) ",
             "(task 1 1000000000)",
+            "(task 1 1000000000 1 01)",
+            "(task 1 1000000000 1 1 1)",
             "(task 1  1000000000 1)",
             "(run 1 1000000000 1)",
         ] {
-            assert!(!too_long(line.as_bytes(), SHEET_FORMS), "{line}");
+            assert!(!too_long(line.as_bytes(), &SHEET_FORMS), "{line}");
         }
     }
 
@@ -430,6 +442,8 @@ mod tests {
         for line in [
             "(task 1 1000001 0)",
             "(task 64 0 1000000000)",
+            "(task 1 1000001 0 1)",
+            "(task 64 0 1000000000 1000000)",
             "(file 1 2 1000000 1000001)",
             "(file 2 1 0 999999999)",
         ] {
@@ -440,6 +454,9 @@ mod tests {
             "(task 1 1000001 1000000001)",
             "(task 65 1000001 1)",
             "(task 0 1000001 1)",
+            "(task 1 1000001 1 0)",
+            "(task 1 1000001 1 1000001)",
+            "(task 1 1000000 1 1)",
             "(file 1 2 1000001 1000001)",
             "(file 1 2 1 1000000)",
             "(file 1 0 1 1000001)",
@@ -454,7 +471,7 @@ mod tests {
     fn known_marks() {
         for texts in known() {
             let (sheet, paper) = (texts.sheet(), texts.paper());
-            let (former, now) = (mark_by(FORMER, sheet, paper), reference::mark(sheet, paper));
+            let (former, now) = (mark_by(NARROW, sheet, paper), reference::mark(sheet, paper));
             judged(sheet, paper, former, now).unwrap();
             let another = [former[0] + 1, former[1], 0, 0, 0];
             let wrong = if former == now { another } else { former };

@@ -1,6 +1,6 @@
 -- `instance::line::parse` meets its contract: the form that the line has says it.
 use mathlib.Core.Path.{sym, _∙_}
-use Rattle.instance.proofs.ParseLaws.{says-board, says-task, says-file, says-nothing}
+use Rattle.instance.proofs.ParseLaws.{says-board, says-task, says-work, says-file, says-nothing}
 use borrow.Author.Needs.{needs}
 use Rattle.instance.proofs.line.parse.Statement.{statement}
 use Rattle.instance.proofs.line.parse.Tie as tie
@@ -57,33 +57,64 @@ scan-requires-3 c κs = search needs
 enum-known-first-3 : tie.Need-enum-known-first-3
 enum-known-first-3 c = search needs
 
-enum-told-3 : tie.Need-enum-told-3
-enum-told-3 c = search needs
+work-of-requires : tie.Need-work-of-requires
+work-of-requires c κs = search needs
 
 returns-3 : tie.Need-returns-3
 returns-3 c =
-    let y = c .before .before in
-    let z = y .before .before in
-    let t = z .before .before in
-    let u = t .before .before in
-    sym
-    (says-nothing _ (sym (u .before .before .scan .ensures) ∙ u .enum-told .given .1) (sym (t .scan2 .ensures) ∙ z .enum-told2 .given .1)
-    (sym (y .scan3 .ensures) ∙ c .enum-told3 .given .1))
-
-file-of-requires : tie.Need-file-of-requires
-file-of-requires c κs = search needs
-
-returns-4 : tie.Need-returns-4
-returns-4 c =
     let x = c .before .before in
     let y = x .before .before in
     let z = y .before .before in
     let t = z .before .before in
     let u = t .before .before in
+    c .work-of .ensures
+    ∙ sym
+    (says-work _ (sym (u .before .before .scan .ensures) ∙ u .enum-told .given .1) (sym (t .scan2 .ensures) ∙ z .enum-told2 .given .1)
+    (sym (y .scan3 .ensures) ∙ x .first3 .given .1))
+
+enum-told-3 : tie.Need-enum-told-3
+enum-told-3 c = search needs
+
+slice-aggregate-scan-4 : tie.Need-slice-aggregate-scan-4
+slice-aggregate-scan-4 c = search needs
+
+scan-requires-4 : tie.Need-scan-requires-4
+scan-requires-4 c κs = search needs
+
+enum-known-first-4 : tie.Need-enum-known-first-4
+enum-known-first-4 c = search needs
+
+enum-told-4 : tie.Need-enum-told-4
+enum-told-4 c = search needs
+
+returns-4 : tie.Need-returns-4
+returns-4 c =
+    let y = c .before .before in
+    let z = y .before .before in
+    let t = z .before .before in
+    let v = t .before .before in
+    let w = v .before .before in
+    let u = w .before .before in
+    sym
+    (says-nothing _ (sym (u .before .before .scan .ensures) ∙ u .enum-told .given .1) (sym (w .scan2 .ensures) ∙ v .enum-told2 .given .1)
+    (sym (t .scan3 .ensures) ∙ z .enum-told3 .given .1) (sym (y .scan4 .ensures) ∙ c .enum-told4 .given .1))
+
+file-of-requires : tie.Need-file-of-requires
+file-of-requires c κs = search needs
+
+returns-5 : tie.Need-returns-5
+returns-5 c =
+    let x = c .before .before in
+    let y = x .before .before in
+    let z = y .before .before in
+    let t = z .before .before in
+    let v = t .before .before in
+    let w = v .before .before in
+    let u = w .before .before in
     c .file-of .ensures
     ∙ sym
-    (says-file _ (sym (u .before .before .scan .ensures) ∙ u .enum-told .given .1) (sym (t .scan2 .ensures) ∙ z .enum-told2 .given .1)
-    (sym (y .scan3 .ensures) ∙ x .first3 .given .1))
+    (says-file _ (sym (u .before .before .scan .ensures) ∙ u .enum-told .given .1) (sym (w .scan2 .ensures) ∙ v .enum-told2 .given .1)
+    (sym (t .scan3 .ensures) ∙ z .enum-told3 .given .1) (sym (y .scan4 .ensures) ∙ x .first4 .given .1))
 
 pub parse-spec : {M : Type 1} → statement M
 parse-spec =
@@ -104,7 +135,13 @@ parse-spec =
     slice-aggregate-scan-3
     scan-requires-3
     enum-known-first-3
-    enum-told-3
+    work-of-requires
     returns-3
+    enum-told-3
+    slice-aggregate-scan-4
+    scan-requires-4
+    enum-known-first-4
+    enum-told-4
+    returns-4
     file-of-requires
-    returns-4)
+    returns-5)

@@ -5,8 +5,8 @@ use borrow.Author.Needs.{needs}
 use Rattle.simulator.proofs.turns.next_turn.Statement.{statement}
 use Rattle.simulator.proofs.turns.next_turn.Tie as tie
 
-next-of-runs-requires : tie.Need-next-of-runs-requires
-next-of-runs-requires c κs = search needs
+next-of-tasks-requires : tie.Need-next-of-tasks-requires
+next-of-tasks-requires c κs = search needs
 
 next-of-files-requires : tie.Need-next-of-files-requires
 next-of-files-requires c κs = search needs
@@ -20,9 +20,9 @@ returns c =
     let s = f .before .before in
     let b = s .args .shape in
     all-turns (instanceFrom b (jobOf (s .args .job .now))) (scheduleFrom b (entriesOf (s .args .schedule .now))) (c .lesser .ensures)
-    (f .before .next-of-runs .ensures) (f .next-of-files .ensures)
+    (f .before .next-of-tasks .ensures) (f .next-of-files .ensures)
 
 pub next-turn-spec : {M : Type 1} → statement M
 next-turn-spec =
     tie.close
-    (tie.spec next-of-runs-requires next-of-files-requires lesser-requires returns)
+    (tie.spec next-of-tasks-requires next-of-files-requires lesser-requires returns)

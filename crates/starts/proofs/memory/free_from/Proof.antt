@@ -13,14 +13,23 @@ horizon-of-requires c κs = search needs
 fits-at-requires : tie.Need-fits-at-requires
 fits-at-requires c κs = search needs
 
-last-late-requires : tie.Need-last-late-requires
-last-late-requires c κs = search needs
+late-files-requires : tie.Need-late-files-requires
+late-files-requires c κs = search needs
+
+late-work-requires : tie.Need-late-work-requires
+late-work-requires c κs = search needs
+
+greater-requires : tie.Need-greater-requires
+greater-requires c κs = search needs
 
 returns : tie.Need-returns
 returns c =
-    let a = c .before .before .before .before .args in (
+    let files = c .before .before in
+    let fits = files .before in
+    let a = fits .before .before .before .args in (
       free-found (a .shape) (jobOf (a .job .now)) (entriesOf (a .schedule .now)) (a .need) (asColour (a .colour))
-          (c .before .before .before .horizon-of .ensures .0) (c .before .before .fits-at .ensures) (c .before .if1 .taken) (c .last-late .ensures .0),
+          (fits .before .before .horizon-of .ensures .0) (fits .before .fits-at .ensures) (fits .if1 .taken) (files .late-files .ensures .0)
+          (c .before .late-work .ensures .0) (c .greater .ensures),
       omega arith,
     )
 
@@ -34,4 +43,5 @@ returns-2 c =
 
 pub free-from-spec : {M : Type 1} → statement M
 free-from-spec =
-    tie.close (tie.spec horizon-of-requires fits-at-requires last-late-requires returns returns-2)
+    tie.close
+    (tie.spec horizon-of-requires fits-at-requires late-files-requires late-work-requires greater-requires returns returns-2)

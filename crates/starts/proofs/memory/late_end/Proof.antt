@@ -8,17 +8,14 @@ use borrow.Author.Needs.{needs}
 use Rattle.starts.proofs.memory.late_end.Statement.{statement}
 use Rattle.starts.proofs.memory.late_end.Tie as tie
 
-hold-of-requires : tie.Need-hold-of-requires
-hold-of-requires c κs = search needs
-
 end-of-requires : tie.Need-end-of-requires
 end-of-requires c κs = search needs
 
 returns : tie.Need-returns
 returns c =
-    let a = c .before .before .before .args in (
-      late-none (a .shape) (jobOf (a .job .now)) (entriesOf (a .schedule .now)) (a .need) (asColour (a .colour)) (a .k) (c .before .before .hold-of .result)
-          (c .before .before .hold-of .ensures .0) (c .before .end-of .ensures) (c .if1 .taken),
+    let a = c .before .before .args in (
+      late-none (a .shape) (jobOf (a .job .now)) (entriesOf (a .schedule .now)) (a .need) (asColour (a .colour)) (asHold (a .h))
+          (c .before .end-of .ensures) (c .if1 .taken),
       omega arith,
     )
 
@@ -30,27 +27,24 @@ fits-at-requires c κs = search needs
 
 returns-2 : tie.Need-returns-2
 returns-2 c =
-    let a = c .before .before .before .before .before .args in (
-      late-fits (a .shape) (jobOf (a .job .now)) (entriesOf (a .schedule .now)) (a .need) (asColour (a .colour)) (a .k)
-          (c .before .before .before .before .hold-of .result) (c .before .before .before .before .hold-of .ensures .0)
+    let a = c .before .before .before .before .args in (
+      late-fits (a .shape) (jobOf (a .job .now)) (entriesOf (a .schedule .now)) (a .need) (asColour (a .colour)) (asHold (a .h))
           (c .before .before .before .end-of .ensures) (c .before .fits-at .ensures) (c .if2 .taken),
       omega arith,
     )
 
 returns-3 : tie.Need-returns-3
 returns-3 c =
-    let a = c .before .before .before .before .before .args in (
-      late-found (a .shape) (jobOf (a .job .now)) (entriesOf (a .schedule .now)) (a .need) (asColour (a .colour)) (a .k)
-          (c .before .before .before .before .hold-of .result) (c .before .before .before .before .hold-of .ensures .0)
+    let a = c .before .before .before .before .args in (
+      late-found (a .shape) (jobOf (a .job .now)) (entriesOf (a .schedule .now)) (a .need) (asColour (a .colour)) (asHold (a .h))
           (c .before .before .before .end-of .ensures) (c .before .fits-at .ensures) (c .if2 .left),
-      omega (arith, end-settles (asHold (c .before .before .before .before .hold-of .result))),
+      omega (arith, end-settles (asHold (a .h))),
     )
 
 pub late-end-spec : {M : Type 1} → statement M
 late-end-spec =
     tie.close
     (tie.spec
-    hold-of-requires
     end-of-requires
     returns
     sub-fits-at

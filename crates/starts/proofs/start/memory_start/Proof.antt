@@ -14,6 +14,9 @@ enum-told c = search needs
 add-need : tie.Need-add-need
 add-need c = search needs
 
+add-need-2 : tie.Need-add-need-2
+add-need-2 c = search needs
+
 free-from-requires : tie.Need-free-from-requires
 free-from-requires c κs = search needs
 
@@ -29,16 +32,16 @@ enum-told-2 c = search needs
 returns : tie.Need-returns
 returns c =
     let a = c .before .before .before .before .before .before .args in (
-      (λ i e. memory-aware (instanceFrom (a .shape) (jobOf (a .job .now))) (scheduleFrom (a .shape) (entriesOf (a .schedule .now))) (asColour (a .colour))
+      (λ i e w. memory-aware (instanceFrom (a .shape) (jobOf (a .job .now))) (scheduleFrom (a .shape) (entriesOf (a .schedule .now))) (asColour (a .colour))
           (a .memory) i e (c .before .before .before .before .enum-told .given .1) (c .before .before .free-from .result) (c .before .free-from2 .result)
-          (c .latest .result) refl (c .before .before .free-from .ensures .0) (c .before .free-from2 .ensures .0) (c .latest .ensures .0)),
+          (c .latest .result) w refl (c .before .before .free-from .ensures .0) (c .before .free-from2 .ensures .0) (c .latest .ensures .0)),
       c .latest .ensures .1,
     )
 
 returns-2 : tie.Need-returns-2
 returns-2 c =
     let a = c .before .before .args in (
-      (λ i e. memory-plain (instanceFrom (a .shape) (jobOf (a .job .now))) (scheduleFrom (a .shape) (entriesOf (a .schedule .now))) (asColour (a .colour))
+      (λ i e _. memory-plain (instanceFrom (a .shape) (jobOf (a .job .now))) (scheduleFrom (a .shape) (entriesOf (a .schedule .now))) (asColour (a .colour))
           (a .memory) i e (c .enum-told2 .given .1)),
       omega arith,
     )
@@ -49,6 +52,7 @@ memory-start-spec =
     (tie.spec
     enum-told
     add-need
+    add-need-2
     free-from-requires
     free-from-requires-2
     latest-requires
