@@ -1,12 +1,12 @@
--- One turn of each loop over the files, what the loops come to after all turns, and the claim made of that.
-use Prim.Native.Nat.{ℕ, _+_, _<_, max}
+-- One turn of each loop over the tasks or the holds, what the loops come to after all turns, and the claim made of that.
+use Prim.Native.Nat.{ℕ, _+_, _-_, _≤_, _<_, max}
 use mathlib.Core.Bool.{true}
-use mathlib.Core.Path.{_≡_, _∙_}
+use mathlib.Core.Path.{_≡_, sym, ap, _∙_}
 use native.Mathlib.Omega.{arith}
 use borrow.Author.Tests.{lt-ltb}
 use Rattle.rules.specs.Count.{maxBelow}
 use Rattle.rules.specs.Model.{Colour, blue, red, Instance, Schedule, fileCount, finishAt, isPlaced, runAt, makerRun, readerRun}
-use Rattle.rules.specs.Residency.{holdOf, held}
+use Rattle.rules.specs.Residency.{holdOf, workOf, held}
 use Rattle.rules.specs.Validity.{Claim, makespan, peak, trueClaim}
 use Rattle.rules.proofs.CompleteLaws.{none-held}
 use Rattle.model.specs.declared.layout.Shape.{Shape}
@@ -15,8 +15,8 @@ use Rattle.model.specs.Layout.{Job, Entries, Bounds, instanceFrom, scheduleFrom
 use Rattle.model.specs.Holds.{asHold}
 use Rattle.model.proofs.LayoutLaws.{file-count, task-count, maker-at, reader-at, run-at}
 use Rattle.model.proofs.StepLaws.{max-next}
-use Rattle.claims.specs.Starts.{startOf, startIn, heldAtStart}
-use Rattle.claims.proofs.RiseLaws.{peak-starts}
+use Rattle.claims.specs.Starts.{startOf, holdCount, startIn, heldAtStart}
+use Rattle.claims.proofs.RiseLaws.{file-hold, work-hold, peak-starts}
 
 module _ {b : Shape} {J : Job} {L : Entries} (f : Bounds b J L) where
   abbrev I : Instance
@@ -34,8 +34,13 @@ module _ {b : Shape} {J : Job} {L : Entries} (f : Bounds b J L) where
   -- ---- the peaks
 
   module _ (c : Colour) where
-    pub start-from : (k : ℕ) (x : Hold) {r : ℕ} → asHold x ≡ holdOf I P c k → r ≡ startOf (asHold x) → r ≡ startIn I P c k
-    start-from k x g e = rw g at e
+    pub file-start : (k : ℕ) → k < b .files → (x : Hold) {r : ℕ} → asHold x ≡ holdOf I P c k → r ≡ startOf (asHold x) → r ≡ startIn I P c k
+    file-start k h x g e = e ∙ ap startOf (g ∙ sym (file-hold I P c k (omega (arith, file-count b J))))
+
+    pub work-start : (n : ℕ) → b .files ≤ n → (x : Hold) {r : ℕ} → asHold x ≡ workOf I P c (n - b .files) → r ≡ startOf (asHold x) → r ≡ startIn I P c n
+    work-start n h x g e =
+        let q : n - b .files ≡ n - fileCount I = omega (arith, file-count b J) in
+        e ∙ ap startOf (g ∙ ap (workOf I P c) q ∙ sym (work-hold I P c n (omega (arith, file-count b J))))
 
     pub peak-turn : (k : ℕ) {t r : ℕ} → t ≡ startIn I P c k → r ≡ held I P c t
         → maxBelow (k + 1) (heldAtStart I P c) ≡ max (maxBelow k (heldAtStart I P c)) r
@@ -54,9 +59,9 @@ module _ {b : Shape} {J : Job} {L : Entries} (f : Bounds b J L) where
       reader-placed : (k : ℕ) → k < fileCount I → isPlaced (readerRun I P k) ≡ true
       reader-placed k l = placed-at (reader-at b J k (file-in l)) (f .job .reader k (file-in l))
 
-      pub peak-total : {n : ℕ} → n ≡ b .files → maxBelow n (heldAtStart I P c) ≡ peak I P c
+      pub peak-total : {n : ℕ} → n ≡ b .files + b .tasks → maxBelow n (heldAtStart I P c) ≡ peak I P c
       peak-total {n} e =
-          let z : maxBelow n (heldAtStart I P c) ≡ maxBelow (fileCount I) (heldAtStart I P c) = rw (file-count b J, e) in
+          let z : maxBelow n (heldAtStart I P c) ≡ maxBelow (holdCount I) (heldAtStart I P c) = rw (file-count b J, task-count b J, e) in
           z ∙ peak-starts I P c (none-held I P c maker-placed reader-placed)
 
 -- ---- the true claim

@@ -1,18 +1,19 @@
 -- Totals rise only where a hold starts: so the greatest total at a start is the peak.
-use Prim.Native.Nat.{ℕ, zero, suc, _≤_, _<_}
+use Prim.Native.Nat.{ℕ, zero, suc, _+_, _-_, _≤_, _<_}
 use mathlib.Core.Bool.{true, false, cond}
-use mathlib.Core.Path.{_≡_, refl}
+use mathlib.Core.Path.{_≡_, refl, ap, _∙_}
 use native.Mathlib.Omega.{arith}
 use native.Mathlib.Decide.{decLe}
 use lib.Dec.{ltb, leb}
-use borrow.Author.Tests.{leb-true, leb-false, le-leb, ltb-true, lt-ltb}
+use borrow.Author.Tests.{leb-true, leb-false, le-leb, ltb-true, lt-ltb, le-ltb}
 use Rattle.rules.specs.Count.{maxBelow}
-use Rattle.rules.specs.Model.{Colour, Instance, fileCount, sizeAt, Schedule}
-use Rattle.rules.specs.Residency.{Hold, never, during, since, covers, holdOf, held, horizon}
+use Rattle.rules.specs.Model.{Colour, Instance, taskCount, workAt, fileCount, sizeAt, Schedule}
+use Rattle.rules.specs.Residency.{Hold, never, during, since, covers, holdOf, workOf, filesHeld, workHeld, held, horizon}
 use Rattle.rules.specs.Validity.{peak}
-use Rattle.rules.proofs.Tests.{clash, and-true, cond-less}
+use Rattle.rules.proofs.Tests.{by-order, clash, and-true, cond-less}
 use Rattle.rules.proofs.CountLaws.{sum-less, sum-zero, max-bound, max-under}
-use Rattle.claims.specs.Starts.{startOf, startIn, heldAtStart}
+use Rattle.rules.proofs.ResidencyLaws.{held-is}
+use Rattle.claims.specs.Starts.{startOf, holdCount, holdAt, startIn, heldAtStart}
 
 -- a hold that covers the first tick starts there
 starts-first : (h : Hold) → covers h 0 ≡ true → startOf h ≡ 0
@@ -33,49 +34,96 @@ starts-next (during a b) t p q =
     ]
 starts-next (since a) t p q = omega (arith, leb-true a (suc t) q, leb-false a t p)
 
--- file k's hold starts by t, with at least as much held then as at t
+-- hold n of memory c starts by t, with at least as much held then as at t
 pub record Risen (I : Instance) (P : Schedule) (c : Colour) (t : ℕ) : Type 0 where
-  pub file : ℕ
-  pub exists : file < fileCount I
-  pub by : startIn I P c file ≤ t
-  pub most : held I P c t ≤ heldAtStart I P c file
+  pub hold : ℕ
+  pub exists : hold < holdCount I
+  pub by : startIn I P c hold ≤ t
+  pub most : held I P c t ≤ heldAtStart I P c hold
 
 module _ (I : Instance) (P : Schedule) (c : Colour) where
-  abbrev here : ℕ → ℕ → ℕ
-  here t k = cond (covers (holdOf I P c k) t) (sizeAt I k) 0
+  pub file-hold : (k : ℕ) → k < fileCount I → holdAt I P c k ≡ holdOf I P c k
+  file-hold k l = rw (lt-ltb k (fileCount I) l)
+
+  pub work-hold : (n : ℕ) → fileCount I ≤ n → holdAt I P c n ≡ workOf I P c (n - fileCount I)
+  work-hold n l = rw (le-ltb n (fileCount I) l)
+
+  work-behind : (i : ℕ) → holdAt I P c (fileCount I + i) ≡ workOf I P c i
+  work-behind i =
+      let e : fileCount I + i - fileCount I ≡ i = omega arith in
+      work-hold (fileCount I + i) (omega arith) ∙ ap (workOf I P c) e
+
+  -- one that starts at t
+  starts-at : (n : ℕ) → n < holdCount I → (h : Hold) → holdAt I P c n ≡ h → (t : ℕ) → startOf h ≡ t → Risen I P c t
+  starts-at n l h e t q =
+      let z : startIn I P c n ≡ t = ap startOf e ∙ q in
+      record { hold = n; exists = l; by = omega arith; most = rw z (omega arith) }
+
+  abbrev fileHere : ℕ → ℕ → ℕ
+  fileHere t k = cond (covers (holdOf I P c k) t) (sizeAt I k) 0
+
+  abbrev workHere : ℕ → ℕ → ℕ
+  workHere t i = cond (covers (workOf I P c i) t) (workAt I i) 0
+
+  -- what starts at the first tick
+  files-first : 0 < filesHeld I P c 0 → Risen I P c 0
+  unfolding filesHeld
+  files-first h =
+      let r = sum-less (fileCount I) (λ k. 0) (fileHere 0) (omega (arith, sum-zero (fileCount I) (λ k. 0) (λ k l. refl))) in
+      let x = holdOf I P c (r .0) in
+      let e = starts-first x (cond-less false (covers x 0) (sizeAt I (r .0)) (r .2) .0) in
+      starts-at (r .0) (omega (arith, r .1)) x (file-hold (r .0) (r .1)) 0 e
+
+  work-first : 0 < workHeld I P c 0 → Risen I P c 0
+  unfolding workHeld
+  work-first h =
+      let r = sum-less (taskCount I) (λ i. 0) (workHere 0) (omega (arith, sum-zero (taskCount I) (λ i. 0) (λ i l. refl))) in
+      let x = workOf I P c (r .0) in
+      let e = starts-first x (cond-less false (covers x 0) (workAt I (r .0)) (r .2) .0) in
+      starts-at (fileCount I + r .0) (omega (arith, r .1)) x (work-behind (r .0)) 0 e
 
   rises-first : 0 < held I P c 0 → Risen I P c 0
-  unfolding held
-  rises-first h =
-      let r = sum-less (fileCount I) (λ k. 0) (here 0) (omega (arith, sum-zero (fileCount I) (λ k. 0) (λ k l. refl))) in
-      let e = starts-first (holdOf I P c (r .0)) (cond-less false (covers (holdOf I P c (r .0)) 0) (sizeAt I (r .0)) (r .2) .0) in
-      record { file = r .0; exists = r .1; by = omega arith; most = rw e (omega arith) }
+  rises-first h = by-order 0 (filesHeld I P c 0) files-first (λ l. work-first (omega (arith, held-is I P c 0)))
+
+  -- and at a later one
+  files-next : (t : ℕ) → filesHeld I P c t < filesHeld I P c (suc t) → Risen I P c (suc t)
+  unfolding filesHeld
+  files-next t h =
+      let r = sum-less (fileCount I) (fileHere t) (fileHere (suc t)) h in
+      let x = holdOf I P c (r .0) in
+      let q = cond-less (covers x t) (covers x (suc t)) (sizeAt I (r .0)) (r .2) in
+      starts-at (r .0) (omega (arith, r .1)) x (file-hold (r .0) (r .1)) (suc t) (starts-next x t (q .1) (q .0))
+
+  work-next : (t : ℕ) → workHeld I P c t < workHeld I P c (suc t) → Risen I P c (suc t)
+  unfolding workHeld
+  work-next t h =
+      let r = sum-less (taskCount I) (workHere t) (workHere (suc t)) h in
+      let x = workOf I P c (r .0) in
+      let q = cond-less (covers x t) (covers x (suc t)) (workAt I (r .0)) (r .2) in
+      starts-at (fileCount I + r .0) (omega (arith, r .1)) x (work-behind (r .0)) (suc t) (starts-next x t (q .1) (q .0))
 
   rises-next : (t : ℕ) → held I P c t < held I P c (suc t) → Risen I P c (suc t)
-  unfolding held
-  rises-next t h =
-      let r = sum-less (fileCount I) (here t) (here (suc t)) h in
-      let q = cond-less (covers (holdOf I P c (r .0)) t) (covers (holdOf I P c (r .0)) (suc t)) (sizeAt I (r .0)) (r .2) in
-      let e = starts-next (holdOf I P c (r .0)) t (q .1) (q .0) in
-      record { file = r .0; exists = r .1; by = omega arith; most = rw e (omega arith) }
+  rises-next t h = by-order (filesHeld I P c t) (filesHeld I P c (suc t))
+      (files-next t)
+      (λ l. work-next t (omega (arith, held-is I P c t, held-is I P c (suc t))))
 
   pub risen : (t : ℕ) → 0 < held I P c t → Risen I P c t
   risen zero h = rises-first h
   risen (suc t) h = elim (decLe (held I P c (suc t)) (held I P c t)) [
-    | yes l ↦ let r = risen t (omega arith) in record { file = r .file; exists = r .exists; by = omega (arith, r .by); most = omega (arith, r .most) }
+    | yes l ↦ let r = risen t (omega arith) in record { hold = r .hold; exists = r .exists; by = omega (arith, r .by); most = omega (arith, r .most) }
     | no l ↦ rises-next t (omega arith)
   ]
 
   -- the peak is the greatest total at the start of a hold, where nothing is held from the horizon on
-  pub peak-starts : ((t : ℕ) → horizon I P c ≤ t → held I P c t ≡ 0) → maxBelow (fileCount I) (heldAtStart I P c) ≡ peak I P c
+  pub peak-starts : ((t : ℕ) → horizon I P c ≤ t → held I P c t ≡ 0) → maxBelow (holdCount I) (heldAtStart I P c) ≡ peak I P c
   unfolding peak
   peak-starts ended =
-      let n = fileCount I in
+      let n = holdCount I in
       let last = horizon I P c in
       omega (
         arith,
         max-under last (held I P c) (maxBelow n (heldAtStart I P c)) (λ t l. elim (decLe 1 (held I P c t)) [
-          | yes h ↦ let r = risen t h in omega (arith, r .most, max-bound n (heldAtStart I P c) (r .file) (r .exists))
+          | yes h ↦ let r = risen t h in omega (arith, r .most, max-bound n (heldAtStart I P c) (r .hold) (r .exists))
           | no h ↦ omega arith
         ]),
         max-under n (heldAtStart I P c) (maxBelow last (held I P c)) (λ k l. elim (decLe last (startIn I P c k)) [

@@ -1,7 +1,7 @@
 // What a complete schedule has to claim: its makespan and its peaks. A total rises only where a hold starts, so a peak is
 // looked for at no other instants.
 ghost use mathlib.Core.Path.{_≡_};
-ghost use Prim.Native.Nat.{_<_, _≤_};
+ghost use Prim.Native.Nat.{_+_, _<_, _≤_};
 ghost use Rattle.rules.specs.Validity.{makespan as rules-makespan, peak as rules-peak, trueClaim};
 ghost use Rattle.model.specs.Claims.{asClaim};
 ghost use Rattle.model.specs.Holds.{asHold};
@@ -15,8 +15,9 @@ use model::layout;
 use model::layout::Shape;
 use model::residency::Hold;
 use model::residency::finish;
-use model::totals::held_at;
 use model::residency::hold_of;
+use model::residency::work_hold;
+use model::totals::held_at;
 
 // The greatest finish: document 01's span.
 pub fn makespan<'a>(
@@ -49,20 +50,23 @@ fn start_of(h: Hold) -> u64
     }
 }
 
-// When the hold of file k in the memory of the colour starts.
+// When hold n of the memory of the colour starts: the holds of the files are counted first, then those of the tasks' working memory.
 pub fn hold_start<'a>(
     shape: Shape,
     job: &'a [u64; layout::JOB],
     schedule: &'a [u64; layout::SCHEDULE],
-    k: usize,
+    n: usize,
     colour: Colour,
 ) -> u64
     requires { ⌜ InBounds shape (now job) (now schedule) ⌝ }
-    requires { ⌜ k < shape .files ⌝ }
+    requires { ⌜ n < shape .files + shape .tasks ⌝ }
     ensures { λ r. ⌜ r ≡
-        startIn (instanceOf shape (now (job .entry))) (scheduleOf shape (now (schedule .entry))) (asColour colour) k ⌝ }
+        startIn (instanceOf shape (now (job .entry))) (scheduleOf shape (now (schedule .entry))) (asColour colour) n ⌝ }
 {
-    start_of(hold_of(shape, job, schedule, k, colour))
+    if n < shape.files {
+        return start_of(hold_of(shape, job, schedule, n, colour));
+    }
+    start_of(work_hold(shape, job, schedule, n - shape.files, colour))
 }
 
 // The greatest total held in the memory of the colour.
@@ -78,9 +82,10 @@ pub fn peak<'a>(
         rules-peak (instanceOf shape (now (job .entry))) (scheduleOf shape (now (schedule .entry))) (asColour colour) ⌝ }
     ensures { λ r. ⌜ r ≤ mostHeld ⌝ }
 {
+    let holds = shape.files + shape.tasks;
     let mut most: u64 = 0;
     let mut i: usize = 0;
-    while i < shape.files {
+    while i < holds {
         let t = hold_start(shape, job, schedule, i, colour);
         most = greater(most, held_at(shape, job, schedule, colour, t));
         i += 1;

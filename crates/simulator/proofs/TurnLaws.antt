@@ -6,8 +6,9 @@ use native.Mathlib.Omega.{arith}
 use lib.Dec.{eqb}
 use borrow.Author.Tests.{lt-ltb, le-ltb}
 use Rattle.rules.specs.Count.{anyBelow}
-use Rattle.rules.specs.Model.{Instance, taskCount, fileCount, Schedule, startAt, finishAt, moved}
+use Rattle.rules.specs.Model.{blue, red, Instance, taskCount, fileCount, Schedule, startAt, finishAt, moved}
 use Rattle.rules.specs.Residency as Rules
+use Rattle.rules.specs.Residency.{holdOf, workOf}
 use Rattle.rules.specs.Simulation.{turns, runTurns, taskTurns, moveTurns, fileTurns, isTurn}
 use Rattle.model.specs.declared.layout.Shape.{Shape}
 use Rattle.model.specs.declared.residency.FileTimes.{FileTimes}
@@ -43,13 +44,14 @@ module _ (h : Hold) where
     hold-since e = soonest-same (λ u. rw e)
 
 -- the holds of both memories, beside another test
-either-of-three : (a b c : Bool) → a || (b || c) ≡ a || b || c
-either-of-three true b c = refl
-either-of-three false b c = refl
+either-of-three : (a b d : Bool) → a || (b || d) ≡ a || b || d
+either-of-three true b d = refl
+either-of-three false b d = refl
 
-pub beside-holds : {p : ℕ → Bool} (x y : Hold) {X Y : Rules.Hold} → asHold x ≡ X → asHold y ≡ Y → {from a b r : ℕ} → Soonest p from a
-    → Soonest (λ u. turns (asHold x) u || turns (asHold y) u) from b → r ≡ min a b → Soonest (λ u. p u || turns X u || turns Y u) from r
-beside-holds {p} x y {X} {Y} e g s t z = soonest-same (λ u. rw (← e, ← g) (either-of-three (p u) (turns (asHold x) u) (turns (asHold y) u))) (soonest-or z s t)
+module _ {p : ℕ → Bool} (x y : Hold) {g h : Rules.Hold} {from a b r : ℕ} where
+  beside-holds : asHold x ≡ g → asHold y ≡ h → Soonest p from a → Soonest (λ u. turns (asHold x) u || turns (asHold y) u) from b → r ≡ min a b
+      → Soonest (λ u. p u || turns g u || turns h u) from r
+  beside-holds e f s t z = soonest-same (λ u. rw (← e, ← f) (either-of-three (p u) (turns (asHold x) u) (turns (asHold y) u))) (soonest-or z s t)
 
 module _ (b : Shape) (J : Job) (L : Entries) where
   abbrev I : Instance
@@ -80,6 +82,17 @@ module _ (b : Shape) (J : Job) (L : Entries) where
         stays e =
             let m : moved I P k ≡ false = sym (times .moves) ∙ e in
             soonest-none _ (λ u. rw m) from
+
+    -- ---- a task, a file
+
+    module _ (x y : Hold) {a d : ℕ} where
+      pub task-turns : (i : ℕ) → asHold x ≡ workOf I P blue i → asHold y ≡ workOf I P red i → Soonest (λ u. runTurns I P u i) from a
+          → Soonest (λ u. turns (asHold x) u || turns (asHold y) u) from d → r ≡ min a d → Soonest (λ u. taskTurns I P u i) from r
+      task-turns i = beside-holds x y
+
+      pub file-turns : (k : ℕ) → asHold x ≡ holdOf I P blue k → asHold y ≡ holdOf I P red k → Soonest (λ u. moveTurns I P u k) from a
+          → Soonest (λ u. turns (asHold x) u || turns (asHold y) u) from d → r ≡ min a d → Soonest (λ u. fileTurns I P u k) from r
+      file-turns k = beside-holds x y
 
     -- ---- all tasks, all files
 

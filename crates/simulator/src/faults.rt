@@ -1,4 +1,5 @@
-// The fault of a tick: 15 at the later start of two runs that overlap, 16 at an early move or an early start, 17 over a limit.
+// The fault of a tick: 15 at the later start of two runs that overlap, 16 at an early move or an early start, 17 over a limit, by the files and
+// the working memory (Order 6) that are held.
 ghost use mathlib.Core.Path.{_≡_};
 ghost use Prim.Native.Nat.{_<_};
 ghost use Rattle.rules.specs.Validity.{overlap};

@@ -1,4 +1,4 @@
-// The state of a tick: what each processor runs, and where each file is held.
+// The state of a tick: what each processor runs, and where each file is held. Working memory (Order 6) is no part of it.
 ghost use mathlib.Core.Path.{_≡_};
 ghost use Prim.Native.Nat.{_<_};
 ghost use Rattle.rules.specs.Simulation.{occupies, runningOn, memoryNumber, heldIn, stateAt};

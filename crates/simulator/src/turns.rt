@@ -1,5 +1,5 @@
-// The ticks at which a run, a move or a hold starts or ends, here a turn: the next one from a tick on. The holds are those of the files and,
-// with Order 6, of the working memory of the tasks.
+// The ticks at which a run, a move or a hold starts or ends, here a turn: the next one from a tick on. A hold is that of a file or, by Order 6,
+// that of a task's working memory.
 ghost use mathlib.Core.Bool.{_||_};
 ghost use lib.Dec.{eqb};
 ghost use Prim.Native.Nat.{_<_, _≤_};

@@ -74,8 +74,8 @@ module _ {b : Shape} {J : Job} {L : Entries} (f : Bounds b J L) where
         → leastWhere (k + 1) last (overAtStart I P c) (startIn I P c) ≡ min (leastWhere k last (overAtStart I P c) (startIn I P c)) r
     over-turn last k g q e = least-turn last (overAtStart I P c) (startIn I P c) k e (rw g at q) g
 
-    pub over-in-total : (last : ℕ) {n : ℕ} → n ≡ b .files → leastWhere n last (overAtStart I P c) (startIn I P c) ≡ firstOverIn I P c last
-    over-in-total last e = rw (file-count b J, e)
+    pub over-in-total : (last : ℕ) {n : ℕ} → n ≡ b .files + b .tasks → leastWhere n last (overAtStart I P c) (startIn I P c) ≡ firstOverIn I P c last
+    over-in-total last e = rw (file-count b J, task-count b J, e)
 
   pub over-yes : (t : ℕ) {x : ℕ} → x ≡ held I P blue t → b .board .blue .limit < x → true ≡ over I P t
   over-yes t {x} e l = sym (over-by I P blue t (omega (arith, limit-of b J Blue)))

@@ -8,21 +8,21 @@ use native.Mathlib.Decide.{decLe}
 use lib.Dec.{ltb}
 use borrow.Author.Tests.{ltb-true, lt-ltb}
 use Rattle.rules.specs.Count.{firstBelow}
-use Rattle.rules.specs.Model.{Colour, blue, red, Instance, limitOf, fileCount, Schedule}
+use Rattle.rules.specs.Model.{Colour, blue, red, Instance, limitOf, Schedule}
 use Rattle.rules.specs.Residency.{held}
 use Rattle.rules.specs.Validity.{over}
 use Rattle.rules.proofs.Tests.{split, or-yes}
 use Rattle.rules.proofs.CountLaws.{first-is}
-use Rattle.claims.specs.Starts.{startIn}
+use Rattle.claims.specs.Starts.{holdCount, startIn}
 use Rattle.claims.proofs.RiseLaws.{risen}
 use Rattle.validator.specs.OverLimit.{overAtStart, firstOverIn}
 use Rattle.validator.proofs.LeastLaws.{least-default, least-bound, least-reached}
 
 record OverStart (I : Instance) (P : Schedule) (c : Colour) (t : ℕ) : Type 0 where
-  file : ℕ
-  exists : file < fileCount I
-  by : startIn I P c file ≤ t
-  over : overAtStart I P c file ≡ true
+  hold : ℕ
+  exists : hold < holdCount I
+  by : startIn I P c hold ≤ t
+  over : overAtStart I P c hold ≡ true
 
 module _ (I : Instance) (P : Schedule) where
   -- whether a memory is over its limit, from the limits and the totals
@@ -39,7 +39,7 @@ module _ (I : Instance) (P : Schedule) where
   over-risen : (c : Colour) (t : ℕ) → limitOf I c < held I P c t → OverStart I P c t
   over-risen c t l =
       let r = risen I P c t (omega arith) in
-      record { file = r .file; exists = r .exists; by = r .by; over = over-by c (startIn I P c (r .file)) (omega (arith, r .most)) }
+      record { hold = r .hold; exists = r .exists; by = r .by; over = over-by c (startIn I P c (r .hold)) (omega (arith, r .most)) }
 
   over-start : (t : ℕ) → over I P t ≡ true → OverStart I P blue t ⊎ OverStart I P red t
   unfolding over
@@ -48,17 +48,17 @@ module _ (I : Instance) (P : Schedule) where
       (λ e. inr (over-risen red t (ltb-true _ _ (rw e at h))))
 
   over-bound : (c : Colour) (last t : ℕ) → OverStart I P c t → firstOverIn I P c last ≤ t
-  over-bound c last t o = omega (arith, least-bound last (overAtStart I P c) (startIn I P c) (fileCount I) (o .file) (o .exists) (o .over), o .by)
+  over-bound c last t o = omega (arith, least-bound last (overAtStart I P c) (startIn I P c) (holdCount I) (o .hold) (o .exists) (o .over), o .by)
 
   over-reached : (c : Colour) (last : ℕ) → firstOverIn I P c last < last → over I P (firstOverIn I P c last) ≡ true
   over-reached c last l =
-      let r = least-reached last (overAtStart I P c) (startIn I P c) (fileCount I) l in
+      let r = least-reached last (overAtStart I P c) (startIn I P c) (holdCount I) l in
       rw (r .3) at (r .2)
 
   -- the first instant over a limit is the least such start in either memory
   pub first-over : (last : ℕ) → min (firstOverIn I P blue last) (firstOverIn I P red last) ≡ firstBelow last (over I P)
   first-over last =
-      let b = least-default last (overAtStart I P blue) (startIn I P blue) (fileCount I) in
+      let b = least-default last (overAtStart I P blue) (startIn I P blue) (holdCount I) in
       first-is last (over I P) (min (firstOverIn I P blue last) (firstOverIn I P red last)) (omega arith)
       (λ l. elim (decLe (firstOverIn I P blue last) (firstOverIn I P red last)) [
         | yes m ↦

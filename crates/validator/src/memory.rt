@@ -46,9 +46,10 @@ fn first_over_in<'a>(
     ensures { λ r. ⌜ r ≡
         firstOverIn (instanceOf shape (now (job .entry))) (scheduleOf shape (now (schedule .entry))) (asColour colour) last ⌝ }
 {
+    let holds = shape.files + shape.tasks;
     let mut first: u64 = last;
     let mut i: usize = 0;
-    while i < shape.files {
+    while i < holds {
         let t = hold_start(shape, job, schedule, i, colour);
         first = lesser(first, select(over_at(shape, job, schedule, t), t, last));
         i += 1;

@@ -1,4 +1,4 @@
-//! An independent implementation of document 01 with Orders 1 to 5, for tests, and texts by chance to compare it on.
+//! An independent implementation of document 01 with Orders 1 to 6, for tests, and texts by chance to compare it on.
 
 pub mod colours;
 pub mod edges;
@@ -13,3 +13,5 @@ pub mod simulation;
 pub mod stepping;
 pub mod traces;
 pub mod widths;
+pub mod work;
+pub mod work_promises;

@@ -16,7 +16,7 @@ pub fn named(planner: Planner) -> frames::Planner {
 }
 
 /// A planner's answer, and the lent buffer after the call.
-#[derive(Clone, PartialEq, Eq)]
+#[derive(Clone, Debug, PartialEq, Eq)]
 pub struct Answered {
     pub answer: Answer,
     pub buffer: Vec<u8>,

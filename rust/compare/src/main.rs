@@ -1,17 +1,17 @@
-//! Compares the proved library with an implementation of its own of document 01 with Orders 1 to 5, on sound and damaged texts from
+//! Compares the proved library with an implementation of its own of document 01 with Orders 1 to 6, on sound and damaged texts from
 //! a fixed seed, and short timetables also with what the memories hold at each tick. All that is marked is simulated too. Prints how often
 //! each answer was reached, what was answered to timetables with relays, how often each of the four cases of maker and reader was met,
 //! what the simulator answered, what the plain planners did beside the memory-aware ones, which marks are others than by the limits
-//! before Order 5, and how often the same job was planned in finer ticks. Ends with an error at the first difference, where an answer or a case was never reached, or where relays were marked as
-//! the rules do not allow.
+//! before Order 5, how often the same job was planned in finer ticks, and what working memory led to. Ends with an error at the first
+//! difference, where an answer or a case was never reached, or where relays were marked as the rules do not allow.
 
-use compare::generate::{self, Random};
+use compare::generate::{self, Random, WORK_FAULTS};
 use compare::library::{self, Answered};
 use compare::reference::{
     self, Heuristic, Memory, Planned, Planner, Sheet, Table, MAX_TEXT, PLANNERS,
 };
 use compare::relays::{self, has_relays};
-use compare::{colours, finer, plain, stepping, widths};
+use compare::{colours, finer, plain, stepping, widths, work_promises};
 use std::collections::{BTreeMap, BTreeSet};
 use Heuristic::{Heft, MinMin};
 use Memory::{Aware, Plain};
@@ -30,6 +30,7 @@ struct Tally {
     plain: plain::Counts,
     widths: widths::Counts,
     finer: finer::Counts,
+    work: work_promises::Counts,
     cases: u64,
 }
 
@@ -75,6 +76,7 @@ impl Tally {
         }
         same(self.simulator.marked(sheet, paper, got), sheet, paper);
         same(self.widths.marked(sheet, paper, got), sheet, paper);
+        same(self.work.marked(sheet, paper, got), sheet, paper);
         got
     }
 
@@ -101,6 +103,8 @@ impl Tally {
             self.colours.planned(sheet, &want);
         }
         same(self.widths.planned(sheet, &got), sheet, got.text());
+        let work = self.work.planned(planner, sheet, &want, &got);
+        same(work, sheet, got.text());
         let mark = match got.answer.number {
             0 => self.mark(sheet, got.text()),
             _ => [0; 5],
@@ -139,6 +143,8 @@ impl Tally {
     }
 }
 
+/// The course example with W on two tasks, for its numbers.
+const WITH_WORK: &[u8] = b"(board (blue 1 8) (red 1 8))\n(task 1 4 2)\n(task 2 3 5 1)\n(task 3 2 6 2)\n(file 1 2 2 1)\n(file 1 3 3 2)\n";
 const COURSE: &[u8] = b"(board (blue 1 6) (red 1 6))\n(task 1 4 2)\n(task 2 3 5)\n(task 3 2 6)\n(file 1 2 2 1)\n(file 1 3 3 2)\n";
 const PAPER: &[u8] =
     b"(run 1 2 0)\n(run 2 1 3)\n(run 3 1 6)\n(move 1 2 2)\n(move 1 3 4)\n(claim 8 5 5)\n";
@@ -169,13 +175,15 @@ fn edges(t: &mut Tally) {
     t.mark(COURSE, PAPER);
 }
 
-/// A sound sheet; two in five have relays.
-fn drawn(r: &mut Random, plain: String) -> Vec<u8> {
+/// A sound sheet; two in five have relays, and two in five W.
+fn drawn(r: &mut Random, mut sheet: String) -> Vec<u8> {
     if r.below(5) < 2 {
-        generate::with_relays(r, &plain).into_bytes()
-    } else {
-        plain.into_bytes()
+        sheet = generate::with_relays(r, &sheet);
     }
+    if r.below(5) < 2 {
+        sheet = generate::with_work(r, &sheet);
+    }
+    sheet.into_bytes()
 }
 
 /// Timetables by chance of a sheet, sound and damaged.
@@ -210,16 +218,33 @@ fn relay_papers(t: &mut Tally, r: &mut Random, read: &Sheet) {
     }
 }
 
+/// A fault about W in a task line of a sound sheet; now and then the planners are asked too.
+fn work_fault(t: &mut Tally, r: &mut Random, read: &Sheet, number: u64) {
+    let kind = number as usize % WORK_FAULTS.len();
+    let (sheet, place) = generate::with_work_fault(r, read, WORK_FAULTS[kind].2);
+    let [refused, at, ..] = t.mark(&sheet, PAPER);
+    same(t.work.fault(kind, place, (refused, at)), &sheet, PAPER);
+    if r.one_in(4) {
+        for planner in PLANNERS {
+            let answer = t.planner(r, planner, &sheet).0.answer;
+            let found = t.work.fault(kind, place, (answer.number, answer.place));
+            same(found, &sheet, b"");
+        }
+    }
+}
+
 fn round(t: &mut Tally, r: &mut Random, number: u64) {
     let plain = generate::sheet(r, if number % 50 == 0 { 64 } else { 7 });
     let sheet = drawn(r, plain);
     let written = t.planners(r, &sheet);
     let read = reference::read_sheet(&sheet).expect("a sound sheet");
     t.relays.sheet(&read);
+    t.work.sheet(&read);
     papers(t, r, &sheet, &read);
     if has_relays(&read) {
         relay_papers(t, r, &read);
     }
+    work_fault(t, r, &read, number);
     if let Some(paper) = written {
         for _ in 0..3 {
             t.mark(&sheet, &generate::damaged(r, &paper));
@@ -240,15 +265,19 @@ fn round(t: &mut Tally, r: &mut Random, number: u64) {
     }
 }
 
-/// Sheets of many tasks, some of them with relays too.
+/// Sheets of many tasks, some of them with relays too, and each of these with W.
 fn large(t: &mut Tally, r: &mut Random) {
     for (tasks, relays) in [(8, 1), (24, 0), (32, 1), (48, 0), (64, 1)] {
         let plain = generate::large_sheet(r, tasks);
         let mut sheets = vec![plain.clone()];
-        sheets.extend((0..relays).map(|_| generate::with_relays(r, &plain)));
+        if relays > 0 {
+            let with_relays = generate::with_relays(r, &plain);
+            sheets.extend([generate::with_work(r, &with_relays), with_relays]);
+        }
         for sheet in sheets {
             let read = reference::read_sheet(sheet.as_bytes()).expect("a sound sheet");
             t.relays.sheet(&read);
+            t.work.sheet(&read);
             t.planners(r, sheet.as_bytes());
         }
     }
@@ -346,6 +375,9 @@ fn finer_ticks(t: &mut Tally, rounds: u64) {
         t.mark(&sheet, PAPER);
         t.planners(&mut r, &sheet);
     }
+    for sheet in generate::each_widened(WITH_WORK) {
+        t.mark(&sheet, PAPER);
+    }
     for paper in generate::each_widened(PAPER) {
         t.mark(COURSE, &paper);
     }
@@ -363,10 +395,15 @@ fn finer_ticks(t: &mut Tally, rounds: u64) {
 /// The traces worked by hand, the known plans and marks, and timetables that move every file, step by step.
 fn by_hand(t: &mut Tally) {
     let traces = t.simulator.by_hand();
-    if let Err(difference) = traces.and(t.plain.by_hand()).and(t.widths.by_hand()) {
+    let plans = traces.and(t.plain.by_hand());
+    if let Err(difference) = plans.and(t.widths.by_hand()).and(t.work.by_hand()) {
         panic!("{difference}");
     }
-    for (sheet, paper) in [generate::all_moved(), generate::all_apart()] {
+    for (sheet, paper) in [
+        generate::all_moved(),
+        generate::all_apart(),
+        generate::all_apart_with_work(),
+    ] {
         t.mark(&sheet, &paper);
         same(t.simulator.walk_through(&sheet, &paper), &sheet, &paper);
     }
@@ -408,12 +445,14 @@ fn main() {
     t.plain.print();
     t.widths.print();
     t.finer.print();
+    t.work.print();
     println!("{} cases, no difference", t.cases);
     let mut faults = [t.relays.faults(), t.colours.faults()].concat();
     faults.extend(t.simulator.faults());
     faults.extend(t.plain.faults());
     faults.extend(t.widths.faults());
     faults.extend(t.finer.faults());
+    faults.extend(t.work.faults());
     if !ok {
         faults.push("an answer was never reached".to_string());
     }

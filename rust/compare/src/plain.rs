@@ -436,7 +436,7 @@ impl Row {
 }
 
 /// What reference.rs answers, in a buffer of a length.
-fn by_reference(planner: Planner, sheet: &[u8], room: usize) -> Answered {
+pub fn by_reference(planner: Planner, sheet: &[u8], room: usize) -> Answered {
     Answered::due(&reference::plan(planner, sheet), room)
 }
 

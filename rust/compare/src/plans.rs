@@ -10,7 +10,7 @@ const ROOM: usize = 200;
 
 /// How a planner ends.
 #[derive(Clone, Debug)]
-enum Ending {
+pub enum Ending {
     /// with a timetable, to which the marker answers a number and a place
     Planned(String, Refused),
     /// with so many tasks placed
@@ -25,7 +25,7 @@ pub struct Worked {
     answers: [(u64, Ending); 4],
 }
 
-fn worked(name: &'static str, sheet: &str, answers: [(u64, Ending); 4]) -> Worked {
+pub fn worked(name: &'static str, sheet: &str, answers: [(u64, Ending); 4]) -> Worked {
     Worked {
         name,
         sheet: sheet.to_string(),
@@ -33,11 +33,11 @@ fn worked(name: &'static str, sheet: &str, answers: [(u64, Ending); 4]) -> Worke
     }
 }
 
-fn accepted(text: &str) -> Ending {
+pub fn accepted(text: &str) -> Ending {
     Planned(text.to_string(), (0, 0))
 }
 
-fn over_limit(text: &str, tick: u64) -> Ending {
+pub fn over_limit(text: &str, tick: u64) -> Ending {
     Planned(text.to_string(), (17, tick))
 }
 
@@ -141,13 +141,17 @@ pub fn plans() -> Vec<Worked> {
 }
 
 impl Worked {
+    pub fn sheet(&self) -> &[u8] {
+        self.sheet.as_bytes()
+    }
+
     /// Holds four planners, each told the length of a buffer, and a marker against the sheet.
     pub fn hold(
         &self,
         plan: impl Fn(Planner, &[u8], usize) -> Answered,
         mark: impl Fn(&[u8], &[u8]) -> [u64; 5],
     ) -> Result<(), String> {
-        let sheet = self.sheet.as_bytes();
+        let sheet = self.sheet();
         for (planner, (trials, ending)) in PLANNERS.iter().zip(&self.answers) {
             let got = plan(*planner, sheet, ROOM);
             let [number, place, ..] = mark(sheet, got.text());

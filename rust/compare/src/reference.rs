@@ -326,11 +326,7 @@ pub fn read_table(sheet: &Sheet, text: &[u8]) -> Result<(Table, Claim), Refused>
 }
 
 /// The reading of a timetable by former or by present rules.
-pub fn read_table_by(
-    rules: Rules,
-    sheet: &Sheet,
-    text: &[u8],
-) -> Result<(Table, Claim), Refused> {
+pub fn read_table_by(rules: Rules, sheet: &Sheet, text: &[u8]) -> Result<(Table, Claim), Refused> {
     if text.len() > MAX_TEXT {
         return Err((11, 0));
     }

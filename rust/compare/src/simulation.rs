@@ -1,5 +1,5 @@
-//! Order 3, with Order 6's working memory, for tests, written from document 02's words in another way than the proved code: the whole trace of a timetable is laid out
-//! first, every tick of it and its first faulty one; a call's steps are then counted off.
+//! Order 3 with Order 6's working memory for tests, written from document 02's words in another way than the proved code: the whole trace of
+//! a timetable is laid out first, every tick of it and its first faulty one; a call's steps are then counted off.
 
 use crate::reference::{
     colours, finish, read_sheet_by, read_table_by, release, span, Refused, Rules, Sheet, Table,

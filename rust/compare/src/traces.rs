@@ -4,11 +4,11 @@
 use crate::simulation::Answer;
 
 /// A step: its tick, what the processors run, and where the files are.
-type Step = (u64, &'static [u64], &'static [u64]);
+pub type Step = (u64, &'static [u64], &'static [u64]);
 
 /// How a trace ends.
 #[derive(Clone, Copy)]
-enum End {
+pub enum End {
     /// a text is refused, by a number and a place
     Refused(u64, u64),
     /// stopped by a number at a tick
@@ -110,7 +110,13 @@ fn course_refused() -> Vec<Worked> {
     ]
 }
 
-fn trace(name: &'static str, sheet: &str, paper: &str, steps: &'static [Step], end: End) -> Worked {
+pub fn trace(
+    name: &'static str,
+    sheet: &str,
+    paper: &str,
+    steps: &'static [Step],
+    end: End,
+) -> Worked {
     Worked {
         name,
         sheet: sheet.to_string(),

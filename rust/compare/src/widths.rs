@@ -36,7 +36,7 @@ const CAUSES: [(Cause, &str, u64); 3] = [
 ];
 
 /// The marker's numbers.
-const NUMBERS: [u64; 13] = [0, 1, 2, 3, 4, 11, 12, 13, 14, 15, 16, 17, 18];
+pub const NUMBERS: [u64; 13] = [0, 1, 2, 3, 4, 11, 12, 13, 14, 15, 16, 17, 18];
 
 /// A line, counted from 1, if the text has it with its LF; without the LF.
 pub fn ended_line(text: &[u8], place: u64) -> Option<&[u8]> {

@@ -1,5 +1,5 @@
 -- `peak` meets its contract. The invariant: the greatest total at the starts of the holds passed.
-use Prim.Native.Nat.{_≤_, _-_}
+use Prim.Native.Nat.{_+_, _≤_, _-_}
 use mathlib.Core.Path.{_≡_, sym}
 use native.Mathlib.Omega.{arith}
 use Rattle.rules.specs.Count.{maxBelow}
@@ -13,13 +13,16 @@ use Rattle.claims.proofs.peak.Statement.{statement}
 use Rattle.claims.proofs.peak.Tie as tie
 
 abbrev Inv-loop : tie.InvT-loop
-Inv-loop shape job schedule colour most₀ i₀ most i =
-    (i ≤ shape .files)
+Inv-loop shape job schedule colour holds most₀ i₀ most i =
+    (i ≤ shape .files + shape .tasks)
     × (most ≡ maxBelow i (heldAtStart (instanceFrom shape (jobOf job)) (scheduleFrom shape (entriesOf schedule)) (asColour colour)))
     × (most ≤ mostHeld)
 
 abbrev μ-loop : tie.MeasureT-loop
-μ-loop shape job schedule colour most₀ i₀ most i = shape .files - i
+μ-loop shape job schedule colour holds most₀ i₀ most i = shape .files + shape .tasks - i
+
+add-holds : tie.Need-add-holds Inv-loop μ-loop
+add-holds c = search needs
 
 loop-holds : tie.Need-loop-holds Inv-loop μ-loop
 loop-holds c = (omega arith, sym (max-none _), omega arith)
@@ -41,13 +44,13 @@ loop-less c = search needs
 
 loop-again : tie.Need-loop-again Inv-loop μ-loop
 loop-again c =
-    let l = c .before .before .before .before .before in
-    let s = l .before in
+    let l = c .before .before .before .before in
+    let s = l .before .before in
     omega (arith, peak-turn (s .pre .0) (asColour (s .args .colour)) (l .loop .i) (c .before .before .hold-start .ensures) (c .before .held-at .ensures .0))
 
 returns : tie.Need-returns Inv-loop μ-loop
 returns c = let s = c .before .before .before in
-    omega (arith, peak-total (s .pre .0) (asColour (s .args .colour)) (s .pre .1) {n = c .before .before .loop .i} (omega arith))
+    omega (arith, peak-total (s .pre .0) (asColour (s .args .colour)) (s .pre .1) {n = c .before .loop .i} (omega arith))
 
 pub peak-spec : {M : Type 1} → statement M
 peak-spec =
@@ -55,6 +58,7 @@ peak-spec =
     (tie.spec
     Inv-loop
     μ-loop
+    add-holds
     loop-holds
     hold-start-requires
     held-at-requires

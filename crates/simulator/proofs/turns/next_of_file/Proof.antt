@@ -1,5 +1,6 @@
 -- `next_of_file` meets its contract.
-use Rattle.simulator.proofs.TurnLaws.{beside-holds}
+use Rattle.model.specs.Layout.{jobOf, entriesOf}
+use Rattle.simulator.proofs.TurnLaws.{file-turns}
 use borrow.Author.Needs.{needs}
 use Rattle.simulator.proofs.turns.next_of_file.Statement.{statement}
 use Rattle.simulator.proofs.turns.next_of_file.Tie as tie
@@ -24,8 +25,9 @@ returns c =
     let n = c .before in
     let r = n .before in
     let b = r .before in
-    beside-holds (b .hold-of .result) (r .hold-of2 .result) (b .hold-of .ensures .0) (r .hold-of2 .ensures .0) (b .before .next-of-move .ensures)
-    (n .next-of-holds .ensures) (c .lesser .ensures)
+    let s = b .before .before in
+    file-turns (s .args .shape) (jobOf (s .args .job .now)) (entriesOf (s .args .schedule .now)) (b .hold-of .result) (r .hold-of2 .result) (s .args .k)
+    (b .hold-of .ensures .0) (r .hold-of2 .ensures .0) (b .before .next-of-move .ensures) (n .next-of-holds .ensures) (c .lesser .ensures)
 
 pub next-of-file-spec : {M : Type 1} → statement M
 next-of-file-spec =

@@ -1,5 +1,6 @@
 -- `next_of_task` meets its contract.
-use Rattle.simulator.proofs.TurnLaws.{beside-holds}
+use Rattle.model.specs.Layout.{jobOf, entriesOf}
+use Rattle.simulator.proofs.TurnLaws.{task-turns}
 use borrow.Author.Needs.{needs}
 use Rattle.simulator.proofs.turns.next_of_task.Statement.{statement}
 use Rattle.simulator.proofs.turns.next_of_task.Tie as tie
@@ -24,8 +25,9 @@ returns c =
     let n = c .before in
     let r = n .before in
     let b = r .before in
-    beside-holds (b .work-hold .result) (r .work-hold2 .result) (b .work-hold .ensures .0) (r .work-hold2 .ensures .0) (b .before .next-of-run .ensures)
-    (n .next-of-holds .ensures) (c .lesser .ensures)
+    let s = b .before .before in
+    task-turns (s .args .shape) (jobOf (s .args .job .now)) (entriesOf (s .args .schedule .now)) (b .work-hold .result) (r .work-hold2 .result) (s .args .i)
+    (b .work-hold .ensures .0) (r .work-hold2 .ensures .0) (b .before .next-of-run .ensures) (n .next-of-holds .ensures) (c .lesser .ensures)
 
 pub next-of-task-spec : {M : Type 1} → statement M
 next-of-task-spec =

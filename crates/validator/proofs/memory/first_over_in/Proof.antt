@@ -1,5 +1,5 @@
 -- `first_over_in` meets its contract. The invariant: the least such start of the holds passed.
-use Prim.Native.Nat.{_≤_, _-_}
+use Prim.Native.Nat.{_+_, _≤_, _-_}
 use mathlib.Core.Path.{_≡_, sym, _∙_}
 use native.Mathlib.Omega.{arith}
 use Rattle.model.specs.Colours.{asColour}
@@ -14,13 +14,16 @@ use Rattle.validator.proofs.memory.first_over_in.Statement.{statement}
 use Rattle.validator.proofs.memory.first_over_in.Tie as tie
 
 abbrev Inv-loop : tie.InvT-loop
-Inv-loop shape job schedule colour last first₀ i₀ first i =
+Inv-loop shape job schedule colour last holds first₀ i₀ first i =
     let I = instanceFrom shape (jobOf job) in
     let P = scheduleFrom shape (entriesOf schedule) in
-    (i ≤ shape .files) × (first ≡ leastWhere i last (overAtStart I P (asColour colour)) (startIn I P (asColour colour)))
+    (i ≤ shape .files + shape .tasks) × (first ≡ leastWhere i last (overAtStart I P (asColour colour)) (startIn I P (asColour colour)))
 
 abbrev μ-loop : tie.MeasureT-loop
-μ-loop shape job schedule colour last first₀ i₀ first i = shape .files - i
+μ-loop shape job schedule colour last holds first₀ i₀ first i = shape .files + shape .tasks - i
+
+add-holds : tie.Need-add-holds Inv-loop μ-loop
+add-holds c = search needs
 
 loop-holds : tie.Need-loop-holds Inv-loop μ-loop
 loop-holds c = (omega arith, sym (least-none _ _ _))
@@ -47,15 +50,15 @@ loop-again : tie.Need-loop-again Inv-loop μ-loop
 loop-again c =
     let o = c .before .before in
     let t = o .before in
-    let l = t .before .before .before in
-    let s = l .before in
+    let l = t .before .before in
+    let s = l .before .before in
     let e = c .before .select .ensures .0 in
     omega (arith, over-turn (s .pre) (asColour (s .args .colour)) (s .args .last) (l .loop .i) (t .hold-start .ensures) (o .over-at .ensures) e)
 
 returns : tie.Need-returns Inv-loop μ-loop
 returns c =
     let s = c .before .before .before in
-    c .before .before .loop .inv .1 ∙ over-in-total (s .pre) (asColour (s .args .colour)) (s .args .last) {n = c .before .before .loop .i} (omega arith)
+    c .before .loop .inv .1 ∙ over-in-total (s .pre) (asColour (s .args .colour)) (s .args .last) {n = c .before .loop .i} (omega arith)
 
 pub first-over-in-spec : {M : Type 1} → statement M
 first-over-in-spec =
@@ -63,6 +66,7 @@ first-over-in-spec =
     (tie.spec
     Inv-loop
     μ-loop
+    add-holds
     loop-holds
     hold-start-requires
     over-at-requires
