@@ -60,10 +60,10 @@ module _ {A : Type 0} where
   or-formed f (some vs) x h e = absurd (h vs e)
 
 -- the numbers of a form are in three or four ranges
-abbrev inThree : Range → Range → Range → List ℕ → Bool
+abbrev pub inThree : Range → Range → Range → List ℕ → Bool
 inThree r s t vs = inRange r (getD vs 0 0) && inRange s (getD vs 1 0) && inRange t (getD vs 2 0)
 
-abbrev inFour : Range → Range → Range → Range → List ℕ → Bool
+abbrev pub inFour : Range → Range → Range → Range → List ℕ → Bool
 inFour r s t u vs = inThree r s t vs && inRange u (getD vs 3 0)
 
 -- a line that none of the forms reads

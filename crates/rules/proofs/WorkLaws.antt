@@ -18,7 +18,7 @@ use Rattle.rules.proofs.CountLaws.{sum-mono, sum-zero, sum-one, sum-cha
 use Rattle.rules.proofs.HoldLaws.{work-unplaced, work-idle}
 
 -- a task that does not exist has none
-no-task : (I : Instance) (i : ℕ) → taskCount I ≤ i → workAt I i ≡ 0
+pub no-task : (I : Instance) (i : ℕ) → taskCount I ≤ i → workAt I i ≡ 0
 no-task I i l = ap (λ a. a .work) (List·getD-eq-default (I .tasks) _ l)
 
 module _ (I : Instance) (P : Schedule) (c : Colour) (t : ℕ) where

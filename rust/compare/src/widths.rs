@@ -39,7 +39,7 @@ const CAUSES: [(Cause, &str, u64); 3] = [
 pub const NUMBERS: [u64; 13] = [0, 1, 2, 3, 4, 11, 12, 13, 14, 15, 16, 17, 18];
 
 /// A line, counted from 1, if the text has it with its LF; without the LF.
-pub fn ended_line(text: &[u8], place: u64) -> Option<&[u8]> {
+fn ended_line(text: &[u8], place: u64) -> Option<&[u8]> {
     let at = (place as usize).checked_sub(1)?;
     let line = text.split_inclusive(|b| *b == b'\n').nth(at)?;
     line.strip_suffix(b"\n")
@@ -76,7 +76,7 @@ pub fn longest_numeral(numerals: &[&[u8]]) -> Option<usize> {
 }
 
 /// The value of a numeral; one that is too long for the type is greater than each limit.
-pub fn value(numeral: &[u8]) -> i64 {
+fn value(numeral: &[u8]) -> i64 {
     let digits = std::str::from_utf8(numeral).expect("digits");
     digits.parse().unwrap_or(i64::MAX)
 }

@@ -10,7 +10,7 @@ use crate::reference::{
     Refused, Sheet, Table, MAX_TEXT, MAX_WORK, SHEET_FORMS, WITHOUT_WORK,
 };
 use crate::simulation::{simulate, simulate_by, Answer};
-use crate::widths::{ended_line, form, longest_numeral, NUMBERS};
+use crate::widths::{form, longest_numeral, NUMBERS};
 use crate::{stepping, work};
 use std::collections::BTreeMap;
 use std::fmt::Debug;
@@ -27,14 +27,14 @@ const ALL: u64 = 1024;
 
 /// The first line that is a task line with W, whatever the values of its numbers.
 fn work_line(text: &[u8]) -> Option<u64> {
-    let lines = 1..=text.iter().filter(|b| **b == b'\n').count() as u64;
-    lines.into_iter().find(|place| {
-        let line = ended_line(text, *place).and_then(|line| form(line, &SHEET_FORMS));
-        line.is_some_and(|(kind, numerals)| {
-            let digits = longest_numeral(&numerals);
-            kind == WITH_WORK && digits.is_some_and(|n| n <= MOST_DIGITS)
-        })
-    })
+    let lines = text.split_inclusive(|b| *b == b'\n');
+    let with_work = |line: &[u8]| {
+        let (kind, numerals) = form(line.strip_suffix(b"\n")?, &SHEET_FORMS)?;
+        let digits = longest_numeral(&numerals)?;
+        Some(kind == WITH_WORK && digits <= MOST_DIGITS)
+    };
+    let mut lines = lines.zip(1..);
+    lines.find_map(|(line, place)| with_work(line)?.then_some(place))
 }
 
 /// Whether an answer by the rules before the order is kept, told from the refusals of the sheet; an error where it is kept and must not be,
