@@ -15,6 +15,7 @@ use Rattle.rules.specs.Promises.{MarkedOrRefused, MarkedExactly, WrittenOrRefus
 use Rattle.rules.specs.CallsExact.{Marking, Planned}
 use Rattle.rules.specs.PlainPlanners.{PlannedPlainly, MarkedBack}
 use Rattle.rules.specs.FinerTicks.{RefusedForWidth, KeptMark, KeptPlan, KeptSimulation, InRange}
+use Rattle.rules.specs.WorkingMemory.{MarkBeforeWork, PlanBeforeWork, SimulationBeforeWork}
 use Rattle.rules.specs.SheetFaults.{SheetFault}
 use Rattle.rules.specs.ScheduleFaults.{ScheduleFault}
 use Rattle.rules.specs.Simulation.{Simulation, refusedBy as refusedText}
@@ -38,6 +39,8 @@ pub record MarkerDemands (sheet paper : List ℕ) (v : Verdict) : Type 0 where
   pub kept : KeptMark sheet paper v
   -- and such a refusal is not given now. Not: ten digits refused as they were
   pub changed : RefusedForWidth sheet paper (markBy former sheet paper) → v ≡ markBy former sheet paper → ⊥
+  -- Order 6: on a sheet without W the mark is that of the rules before it. Not: a W held that no line has
+  pub beforeWork : MarkBeforeWork sheet paper v
 
 -- what every planner's answer a promises, with the bytes that the lent buffer then holds
 pub record PlannerDemands (R : Planner) (sheet buffer : List ℕ) (a : Answer) : Type 0 where
@@ -63,6 +66,8 @@ pub record PlannerDemands (R : Planner) (sheet buffer : List ℕ) (a : Answer) :
   pub inRange : (I : Instance) → readInstance sheet ≡ accepted I → a .number ≡ 0 → (w : Written R I buffer a) × InRange I (w .rule .schedule)
   -- the answer that the former widths give, or that one refuses the sheet for a number too long or too large. Not: another plan for an old sheet
   pub kept : KeptPlan R sheet buffer a
+  -- Order 6: on a sheet without W the whole answer is that of the rules before it. Not: a plan that waits for a W that no line has
+  pub beforeWork : PlanBeforeWork R sheet buffer a
 
 -- what the answer of a memory-aware planner promises besides
 pub record AwareDemands (R : Planner) (sheet buffer : List ℕ) (a : Answer) : Type 0 where
@@ -70,7 +75,7 @@ pub record AwareDemands (R : Planner) (sheet buffer : List ℕ) (a : Answer) : T
   -- succeeds
   pub readBack : a .number ≡ 0 → AcceptedBack R sheet buffer a
   -- where memory is ample the whole answer, trials and every byte too, is that of its plain parent. Not: a task that waits for memory
-  -- while all files fit
+  -- while all files and all W fit
   pub parent : (I : Instance) → readInstance sheet ≡ accepted I → Ample I → a ≡ plan (parentOf R) sheet buffer
 
 -- what the answer of a plain planner promises besides
@@ -80,7 +85,7 @@ pub record PlainDemands (R : Planner) (sheet buffer : List ℕ) (a : Answer) : T
   -- for an accepted sheet, whatever the limits: success with the text written exactly if it fits the buffer, else 31 with the bytes needed. Not: every
   -- sheet refused
   pub plainly : (I : Instance) → readInstance sheet ≡ accepted I → PlannedPlainly R I buffer a
-  -- where memory is ample what was written is accepted when read back. Not: 17 while all files fit
+  -- where memory is ample what was written is accepted when read back. Not: 17 while all files and all W fit
   pub ampleBack : (I : Instance) → readInstance sheet ≡ accepted I → Ample I → a .number ≡ 0 → AcceptedBack R sheet buffer a
 
 -- HEFT's trials: two for each task of an accepted sheet, also after 31. Not: every ready task tried
@@ -102,3 +107,5 @@ pub record SimulatorDemands (sheet paper : List ℕ) (made steps : ℕ) (a : Sim
   -- Order 5: the answer that the former widths give, or the marker by them refuses a line for a number too long or too large. Not: another state for an
   -- old timetable
   pub kept : KeptSimulation sheet paper made steps a
+  -- Order 6: on a sheet without W the whole answer is that of the rules before it. Not: a step for a W that no line has
+  pub beforeWork : SimulationBeforeWork sheet paper made steps a

@@ -43,7 +43,8 @@ module _ (h : Hold) where
     pub hold-since : {a : ℕ} → h ≡ Since a → Soonest (λ u. eqb a u) from r → Soonest (turns (asHold h)) from r
     hold-since e = soonest-same (λ u. rw e)
 
--- the holds of both memories, beside another test
+-- ---- the holds of both memories, beside another test
+
 either-of-three : (a b d : Bool) → a || (b || d) ≡ a || b || d
 either-of-three true b d = refl
 either-of-three false b d = refl

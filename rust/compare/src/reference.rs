@@ -146,19 +146,14 @@ pub const SHEET_FORMS: [&str; 4] = [
 ];
 pub const TABLE_FORMS: [&str; 3] = ["(run # # #)", "(move # # #)", "(claim # # #)"];
 
-/// The numbers of a line, if it is `words` with a numeral of at most so many digits for each `#`.
-fn numbers(line: &[u8], words: &str, most_digits: usize) -> Option<Vec<i64>> {
-    let text = std::str::from_utf8(line).ok()?;
-    let got: Vec<&str> = text.split(' ').collect();
-    let want: Vec<&str> = words.split(' ').collect();
-    if got.len() != want.len() {
-        return None;
-    }
+/// The numbers of a line, if it is `form` with a numeral of at most so many digits for each `#`.
+fn numbers(line: &[u8], form: &str, most_digits: usize) -> Option<Vec<i64>> {
+    let mut words = std::str::from_utf8(line).ok()?.split(' ');
     let mut all = Vec::new();
-    for (g, w) in got.iter().zip(&want) {
-        if let Some(hash) = w.find('#') {
-            let (front, back) = (&w[..hash], &w[hash + 1..]);
-            let inner = g.strip_prefix(front)?.strip_suffix(back)?;
+    for want in form.split(' ') {
+        let word = words.next()?;
+        if let Some((front, back)) = want.split_once('#') {
+            let inner = word.strip_prefix(front)?.strip_suffix(back)?;
             let digits = inner.bytes().all(|b| b.is_ascii_digit());
             if inner.is_empty()
                 || !digits
@@ -168,15 +163,11 @@ fn numbers(line: &[u8], words: &str, most_digits: usize) -> Option<Vec<i64>> {
                 return None;
             }
             all.push(inner.parse().unwrap());
-        } else if g != w {
+        } else if word != want {
             return None;
         }
     }
-    Some(all)
-}
-
-fn all_in(pairs: &[(i64, i64, i64)]) -> bool {
-    pairs.iter().all(|(n, least, most)| least <= n && n <= most)
+    words.next().is_none().then_some(all)
 }
 
 /// The least and the greatest value of a number.
@@ -232,12 +223,8 @@ impl Reading {
         }
         for (kind, (form, ranges)) in self.forms.iter().enumerate() {
             if let Some(vs) = numbers(line, form, self.digits) {
-                let pairs: Vec<(i64, i64, i64)> = vs
-                    .iter()
-                    .zip(ranges)
-                    .map(|(v, (a, b))| (*v, *a, *b))
-                    .collect();
-                return if all_in(&pairs) {
+                let mut numbers = vs.iter().zip(ranges);
+                return if numbers.all(|(n, (least, most))| least <= n && n <= most) {
                     Ok((kind, vs))
                 } else {
                     Err(self.base + 3)

@@ -29,8 +29,8 @@ const STOPPED: [u64; 3] = [15, 16, 17];
 /// Of the traces with at most so many steps, one in four is gone through step by step.
 const WALKED: u64 = 100;
 
-/// The most ticks that a trace can have: start and end of 64 runs and 256 moves.
-const MOST_TICKS: u64 = 640;
+/// The most ticks that a trace can have: start and end of 64 runs and 256 moves. Where a hold outlasts a run, the run has one tick.
+pub const MOST_TICKS: u64 = 640;
 
 /// A number that no call answers, for the arrays before a call.
 const UNFILLED: u64 = 0xa5a5_a5a5_a5a5_a5a5;

@@ -10,8 +10,9 @@ use crate::reference::{
     Refused, Sheet, Table, MAX_TEXT, MAX_WORK, SHEET_FORMS, WITHOUT_WORK,
 };
 use crate::simulation::{simulate, simulate_by, Answer};
+use crate::stepping::{self, MOST_TICKS};
 use crate::widths::{form, longest_numeral, NUMBERS};
-use crate::{stepping, work};
+use crate::work;
 use std::collections::BTreeMap;
 use std::fmt::Debug;
 use Memory::{Aware, Plain};
@@ -376,6 +377,8 @@ struct Steps {
     /// ended with more steps than without W, and past the span, where without W it ends at the span
     more: u64,
     past: u64,
+    /// ended with as many steps as there can be
+    most: u64,
     /// stopped by 17, and without W not; or sooner than without W
     over_alone: u64,
     over_sooner: u64,
@@ -410,6 +413,7 @@ impl Steps {
             0 => {
                 self.more += u64::from(all.made > other.made);
                 self.past += u64::from(all.time > all.span && other.time == other.span);
+                self.most += u64::from(all.made == MOST_TICKS);
             }
             17 => {
                 self.over_alone += u64::from(other.number == 0);
@@ -436,10 +440,11 @@ impl Steps {
         Ok(())
     }
 
-    fn rows(&self) -> Rows<7> {
+    fn rows(&self) -> Rows<8> {
         [
             ("more steps for W", self.more),
             ("ended past the span for W alone", self.past),
+            ("with 640 steps", self.most),
             ("stopped by 17 for W alone", self.over_alone),
             ("sooner for W", self.over_sooner),
             ("by 17, marked 15 or 16", self.other),
