@@ -66,3 +66,15 @@ pub fn print_answer(a: Answer, out: &[u8]) -> bool
     let n = a.place as usize;
     io::write_all(STDOUT_FILENO, &out[..n])
 }
+
+// How the timetable is marked that an answer says was written. Nothing is printed for a refusal.
+pub fn print_mark<'a>(sheet: &'a [u8], a: Answer, out: &'a [u8]) -> bool
+    requires { ⌜ LongEnough a (now out) ⌝ }
+{
+    if a.number != 0 {
+        return true;
+    }
+    let n = a.place as usize;
+    let v = frames::mark(sheet, &out[..n]);
+    io::write_all(STDOUT_FILENO, b"marked: ") && print_verdict(v)
+}

@@ -6,6 +6,7 @@ mod input;
 mod planners;
 
 pub use answers::print_answer;
+pub use answers::print_mark;
 pub use answers::print_marks;
 pub use answers::print_number;
 pub use answers::print_numbers;

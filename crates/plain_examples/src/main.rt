@@ -1,28 +1,13 @@
 // The four planners side by side on the sheets of data/ (Order 4): of each the number, the place and the trials, then its timetable and what
 // the marker says to it on the same sheet.
-ghost use Rattle.console.specs.LongEnough.{LongEnough};
 use console::Input;
 use console::Planner;
 use console::plan;
 use console::print_answer;
+use console::print_mark;
 use console::print_numbers;
-use console::print_verdict;
 use console::read_file;
-use frames::Answer;
 use libc::STDOUT_FILENO;
-
-// How the timetable is marked that an answer says was written.
-fn print_mark<'a>(sheet: &'a [u8], a: Answer, out: &'a [u8])
-    requires { ⌜ LongEnough a (now out) ⌝ }
-{
-    if a.number != 0 {
-        return;
-    }
-    let n = a.place as usize;
-    let v = frames::mark(sheet, &out[..n]);
-    io::write_all(STDOUT_FILENO, b"marked: ");
-    print_verdict(v);
-}
 
 // One planner on a sheet: its answer, and how its timetable is marked.
 fn show_plan<'a>(name: &'a [u8], label: &'a [u8], planner: Planner, sheet: &'a [u8]) {

@@ -7,6 +7,7 @@ mod relays;
 mod show;
 mod state;
 mod texts;
+mod work;
 
 use libc::STDOUT_FILENO;
 
@@ -21,4 +22,5 @@ fn main() {
     texts::examples();
     ends::examples();
     relays::examples();
+    work::examples();
 }

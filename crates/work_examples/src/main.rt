@@ -1,9 +1,4 @@
 // Working memory of a task (Order 6): the lines of a sheet, timetables marked, plans made, and a sheet written back.
-use crate::lines;
-use crate::marks;
-use crate::plans;
-use crate::sheet;
-
 mod lines;
 mod marks;
 mod plans;

@@ -1,20 +1,17 @@
-// Plans of tasks with W: start 3 asks for it, start 4 does not, and a plain planner asks for nothing.
+// Plans of tasks with W: start 3 asks for it, start 4 does not, and a plain planner asks for neither.
 use console::Planner;
 use console::plan;
 use console::print_answer;
+use console::print_mark;
 use console::print_numbers;
-use console::print_verdict;
 
-// A planner's answer, with the marker's to what it wrote.
+// One planner on a sheet: its answer, and how its timetable is marked.
 fn show_planner<'a>(what: &'a [u8], label: &'a [u8], planner: Planner, sheet: &'a [u8]) {
     let mut out = io::large_buffer();
     let a = plan(planner, sheet, &mut out);
     print_numbers(what, label, a);
     print_answer(a, &out);
-    if a.number == 0 {
-        let n = a.place as usize;
-        print_verdict(frames::mark(sheet, &out[..n]));
-    }
+    print_mark(sheet, a, &out);
 }
 
 // All four planners on a sheet.

@@ -561,7 +561,7 @@ fn apart() -> (Sheet, Table) {
     (sheet, table)
 }
 
-/// The same with a relay with W for each task, whose hold ends at a tick at which nothing else starts or ends where it reads nothing.
+/// The same with each task a relay with W: 640 ticks too, since each W is held until the tick after its relay.
 pub fn all_apart_with_work() -> (Vec<u8>, Vec<u8>) {
     let (mut sheet, table) = apart();
     for task in &mut sheet.tasks {

@@ -164,10 +164,13 @@ fn edges(t: &mut Tally) {
             t.mark(&behind, PAPER);
         }
     }
-    for planner in PLANNERS {
-        let want = reference::plan(planner, COURSE);
+    for (planner, sheet) in PLANNERS
+        .iter()
+        .flat_map(|p| [(*p, COURSE), (*p, WITH_WORK)])
+    {
+        let want = reference::plan(planner, sheet);
         for room in 0..120 {
-            t.plan(planner, COURSE, &want, room);
+            t.plan(planner, sheet, &want, room);
         }
     }
     t.mark(b"", b"");

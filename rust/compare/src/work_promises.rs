@@ -38,26 +38,21 @@ fn work_line(text: &[u8]) -> Option<u64> {
     lines.find_map(|(line, place)| with_work(line)?.then_some(place))
 }
 
-/// Whether an answer by the rules before the order is kept, told from the refusals of the sheet; an error where it is kept and must not be,
-/// or the other way round.
+/// Whether an answer by the rules before the order must be kept: where no line has W, and where the sheet is refused sooner than that. Else
+/// the sheet was refused there by 2, and is not now. An error where this is not so.
 fn judged<T: PartialEq + Debug>(
     text: &[u8],
     (before, now): (&T, &T),
     refusal: impl Fn(&T) -> Refused,
 ) -> Result<bool, String> {
-    let line = if text.len() > MAX_TEXT {
-        None
-    } else {
-        work_line(text)
-    };
-    let sooner = |(number, place): Refused, line: u64| number <= 4 && number > 0 && place < line;
+    let line = work_line(text);
+    let sooner = |(number, place): Refused, line: u64| (1..=4).contains(&number) && place < line;
     let (kept, due) = match line {
-        None => (true, before == now),
-        Some(line) if sooner(refusal(before), line) => (true, before == now),
-        Some(line) => {
+        Some(line) if !sooner(refusal(before), line) => {
             let other = refusal(now) != (2, line) && !sooner(refusal(now), line);
             (false, refusal(before) == (2, line) && other)
         }
+        _ => (true, before == now),
     };
     if due {
         return Ok(kept);
@@ -369,6 +364,13 @@ impl Marks {
             ("with a relay's W", self.relay),
         ]
     }
+
+    /// What was never reached.
+    fn faults(&self) -> Vec<String> {
+        let due = [0, 11, 12, 13, 14, 15, 16, 17, 18].into_iter();
+        let never = due.filter(|n| count_of(&self.numbers, *n) == 0);
+        never.map(|n| format!("with W, the mark {n}")).collect()
+    }
 }
 
 /// Timetables with W, simulated.
@@ -475,12 +477,13 @@ struct Plans {
     relay: u64,
 }
 
-/// A timetable without its claim, and the claim's numbers.
-fn taken_apart(text: &[u8]) -> (&[u8], Vec<i64>) {
+/// A timetable without its claim, and the claim's numbers; those of no timetable are 0.
+fn taken_apart(text: &[u8]) -> (&[u8], [i64; 3]) {
     let at = text.iter().rposition(|b| *b == b'(').unwrap_or(0);
     let claim = String::from_utf8_lossy(&text[at..]);
     let words = claim.split(|c: char| !c.is_ascii_digit());
-    (&text[..at], words.filter_map(|w| w.parse().ok()).collect())
+    let numbers: Vec<i64> = words.filter_map(|w| w.parse().ok()).collect();
+    (&text[..at], numbers.try_into().unwrap_or([0; 3]))
 }
 
 impl Plans {
@@ -506,11 +509,14 @@ impl Plans {
     /// A plain planner does not look at W: its plan is the same but for the peaks claimed.
     fn plain(&mut self, got: &Answered, other: &Answered) -> Result<(), String> {
         let [(lines, claim), (due, bare)] = [got, other].map(|a| taken_apart(a.text()));
-        let least = (0..3).all(|k| claim[k] >= bare[k]) && claim[0] == bare[0];
+        let peaks = claim[0] == bare[0] && claim[1] >= bare[1] && claim[2] >= bare[2];
         let answers = [got, other].map(|a| (a.answer.number, a.answer.trials));
-        if lines != due || !least || answers[0] != answers[1] {
+        if lines != due || !peaks || answers[0] != answers[1] {
             return Err(format!(
-                "a plain plan claims {claim:?}, without W {bare:?}, or is another"
+                "a plain planner answers {:?}, without W {:?}:\n{}",
+                got.answer,
+                other.answer,
+                String::from_utf8_lossy(other.text())
             ));
         }
         self.plain += 1;
@@ -686,38 +692,138 @@ impl Counts {
 
     /// What was never reached: a line each.
     pub fn faults(&self) -> Vec<String> {
-        let mut rows = self.drawn.rows().to_vec();
-        rows.extend(self.before.rows());
-        rows.extend(self.marks.rows());
-        rows.extend(self.steps.rows());
-        rows.extend(self.plans.rows());
-        rows.extend(
-            WORK_FAULTS
-                .iter()
-                .zip(self.faults)
-                .map(|((name, ..), n)| (*name, n)),
-        );
-        rows.extend(
-            ["known marks", "known plans", "known traces"]
-                .into_iter()
-                .zip(self.known),
-        );
-        let mut never: Vec<String> = rows
-            .iter()
-            .filter(|r| r.1 == 0)
-            .map(|r| r.0.to_string())
-            .collect();
-        never.extend(self.before.faults());
-        let with_work = [0, 11, 12, 13, 14, 15, 16, 17, 18].into_iter();
-        let never_marked = with_work.filter(|n| count_of(&self.marks.numbers, *n) == 0);
-        never.extend(never_marked.map(|n| format!("the mark {n} on a sheet with W")));
-        let mut all: Vec<String> = never
-            .iter()
-            .map(|name| format!("working memory, {name}: none"))
-            .collect();
+        let faults = WORK_FAULTS.iter().zip(self.faults);
+        let faults: Vec<(&str, u64)> = faults.map(|((name, ..), n)| (*name, n)).collect();
+        let [marks, plans, traces] = self.known;
+        let known = [("marks", marks), ("plans", plans), ("traces", traces)];
+        let groups = [
+            ("sheets", &self.drawn.rows()[..]),
+            ("before the order", &self.before.rows()),
+            ("marks", &self.marks.rows()),
+            ("simulated", &self.steps.rows()),
+            ("planned", &self.plans.rows()),
+            ("faults", &faults),
+            ("known", &known),
+        ];
+        let mut all = vec![];
+        for (group, rows) in groups {
+            let never = rows.iter().filter(|r| r.1 == 0);
+            all.extend(never.map(|r| format!("working memory, {group}, {}: none", r.0)));
+        }
+        let never = self.before.faults().into_iter().chain(self.marks.faults());
+        all.extend(never.map(|name| format!("working memory, {name}: none")));
         if 3 * self.drawn.with_work < self.drawn.all {
             all.push("fewer than a third of the sheets had W".to_string());
         }
         all
+    }
+}
+
+#[cfg(test)]
+mod tests {
+    use super::*;
+    use crate::generate;
+
+    #[test]
+    fn lines_with_work() {
+        let board = "(board (blue 1 9) (red 1 9))\n";
+        for line in [
+            "(task 1 4 4 1)",
+            "(task 65 4 4 0)",
+            "(task 1 4 4 999999999999)",
+        ] {
+            let text = format!("{board}(task 1 4 4)\n{line}\n{line}\n");
+            assert_eq!(work_line(text.as_bytes()), Some(3), "{line}");
+            assert_eq!(work_line(line.as_bytes()), None, "{line}");
+        }
+        for line in [
+            "",
+            "(task 1 4 4)",
+            "(task 1 4 4 01)",
+            "(task 1 4 4 1 1)",
+            "(task 1 4 4 1000000000000)",
+            "(task 1 4 4  1)",
+            "(task 1 4 4 1) ",
+            "(file 1 2 4 1)",
+            "(file 1 2 4 1 1)",
+        ] {
+            let text = format!("{board}{line}\n");
+            assert_eq!(work_line(text.as_bytes()), None, "{line}");
+        }
+    }
+
+    /// A sheet without W keeps its answer; one with W at line 2 keeps a refusal of line 1, and no other answer.
+    #[test]
+    fn kept_and_changed() {
+        let board = "(board (blue 1 9) (red 1 9))\n";
+        let without = format!("{board}(task 1 4 4)\n");
+        let with = format!("{board}(task 1 4 4 1)\n");
+        let judge = |text: &str, before: Refused, now: Refused| {
+            judged(text.as_bytes(), (&before, &now), |r| *r).ok()
+        };
+        assert_eq!(judge(&without, (0, 0), (0, 0)), Some(true));
+        assert_eq!(judge(&without, (2, 2), (2, 2)), Some(true));
+        assert_eq!(judge(&without, (2, 2), (0, 0)), None);
+        assert_eq!(judge(&without, (17, 2), (17, 1)), None);
+        for now in [(0, 0), (3, 2), (4, 2), (2, 3), (12, 1), (17, 0), (21, 1)] {
+            assert_eq!(judge(&with, (2, 2), now), Some(false));
+            assert_eq!(judge(&with, now, now), None);
+        }
+        for now in [(1, 0), (2, 1), (3, 1), (4, 1)] {
+            assert_eq!(judge(&with, now, now), Some(true));
+            assert_eq!(judge(&with, (2, 2), now), None);
+        }
+        assert_eq!(judge(&with, (2, 2), (2, 2)), None);
+    }
+
+    #[test]
+    fn marks_with_and_without_work() {
+        let [accepted, over, early] = [[0, 0, 8, 5, 5], [17, 4, 0, 0, 0], [16, 4, 0, 0, 0]];
+        let (sooner, untrue) = ([17, 3, 0, 0, 0], [18, 0, 0, 0, 0]);
+        for (mark, bare) in [
+            (accepted, accepted),
+            (accepted, untrue),
+            (untrue, accepted),
+            (untrue, untrue),
+            (over, accepted),
+            (over, untrue),
+            (over, over),
+            (sooner, over),
+            (early, early),
+        ] {
+            assert!(marked_alike(mark, bare), "{mark:?} {bare:?}");
+        }
+        for (mark, bare) in [
+            (accepted, over),
+            (accepted, [0, 0, 8, 4, 5]),
+            (untrue, over),
+            (over, sooner),
+            (over, early),
+            (early, over),
+            (early, accepted),
+        ] {
+            assert!(!marked_alike(mark, bare), "{mark:?} {bare:?}");
+        }
+    }
+
+    #[test]
+    fn timetables_taken_apart() {
+        let text = b"(run 1 1 0)\n(claim 4 10 0)\n";
+        assert_eq!(taken_apart(text), (&b"(run 1 1 0)\n"[..], [4, 10, 0]));
+        assert_eq!(taken_apart(b""), (&b""[..], [0; 3]));
+    }
+
+    /// Sheets drawn with W have it, are sound and are written back, and the same without W are as they were but for the limits.
+    #[test]
+    fn drawn_with_work() {
+        let mut r = Random(6);
+        for _ in 0..300 {
+            let plain = generate::sheet(&mut r, 7);
+            let text = generate::with_work(&mut r, &plain);
+            let mut bare = Bare::new(text.as_bytes()).expect("a sheet with W").sheet;
+            assert_eq!(write_sheet(&bare), text);
+            bare.limits = read_sheet(plain.as_bytes()).unwrap().limits;
+            assert_eq!(write_sheet(&without(&bare, |_| true)), plain);
+        }
     }
 }

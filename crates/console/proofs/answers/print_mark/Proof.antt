@@ -2,8 +2,8 @@
 use mathlib.Core.Path.{sym}
 use lib.Seq.{length-take-le}
 use borrow.Author.Needs.{needs}
-use Rattle.plain_examples.proofs.print_mark.Statement.{statement}
-use Rattle.plain_examples.proofs.print_mark.Tie as tie
+use Rattle.console.proofs.answers.print_mark.Statement.{statement}
+use Rattle.console.proofs.answers.print_mark.Tie as tie
 
 returns : tie.Need-returns
 returns c = search needs
@@ -26,6 +26,9 @@ print-verdict-requires c κs = search needs
 returns-2 : tie.Need-returns-2
 returns-2 c = search needs
 
+returns-3 : tie.Need-returns-3
+returns-3 c = search needs
+
 pub print-mark-spec : {M : Type 1} → statement M
 print-mark-spec =
     tie.close
@@ -36,4 +39,5 @@ print-mark-spec =
     slice-aggregate-write-all
     write-all-requires
     print-verdict-requires
-    returns-2)
+    returns-2
+    returns-3)
