@@ -1,4 +1,4 @@
-// What a memory holds: the total, the limit and the files.
+// The files that a memory holds: their total, the limit and each of them.
 ghost use mathlib.Core.Path.{_≡_};
 ghost use Prim.Native.Nat.{_+_, _<_, _≤_};
 ghost use lib.ListN.{getD};
@@ -6,7 +6,7 @@ ghost use Rattle.rules.specs.Limits.{maxTasks, fileSizes, memoryLimits};
 ghost use Rattle.rules.specs.Count.{sumWhere};
 ghost use Rattle.rules.specs.SimulationPromises.{isIn};
 ghost use Rattle.model.specs.Colours.{asColour};
-ghost use Rattle.model.specs.Layout.{JobInBounds, jobOf, mostHeld};
+ghost use Rattle.model.specs.Layout.{JobInBounds, jobOf, mostFiles};
 ghost use Rattle.framewatch.specs.Columns.{width, rowColumn, limitColumns, fileColumns};
 use crate::line::Line;
 use model::choice::greater;
@@ -27,7 +27,7 @@ fn holds(colour: Colour, held: u64) -> bool
     held == by_colour(colour, 1, 2)
 }
 
-// The total that the memory of the colour holds.
+// The sizes together of the files that the memory of the colour holds.
 fn total<'a>(
     shape: Shape,
     job: &'a [u64; layout::JOB],
@@ -37,7 +37,7 @@ fn total<'a>(
     requires { ⌜ JobInBounds shape (now job) ⌝ }
     ensures { λ r. ⌜ r ≡
         sumWhere (shape .files) (λ k. isIn (asColour colour) (getD (now (contents .entry)) k 0)) (jobOf (now (job .entry)) .size) ⌝ }
-    ensures { λ r. ⌜ r ≤ mostHeld ⌝ }
+    ensures { λ r. ⌜ r ≤ mostFiles ⌝ }
 {
     let mut sum: u64 = 0;
     let mut k: usize = 0;
@@ -121,7 +121,7 @@ fn limit_columns(shape: Shape) -> usize
     text::number_size(greater(shape.board.blue.limit, shape.board.red.limit))
 }
 
-// The line with what the memory of the colour holds behind it: the total and the limit, aligned from colour to colour, and the files.
+// The line with the files that the memory of the colour holds behind it: their total and the limit, aligned from colour to colour, and each file.
 pub fn show<'a>(
     line: Line,
     shape: Shape,

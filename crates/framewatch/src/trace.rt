@@ -1,7 +1,10 @@
 // The trace of a timetable: a heading, the steps, and how it ends.
+ghost use mathlib.Core.Path.{_≡_};
 ghost use Prim.Native.Nat.{_≤_};
+ghost use lib.Dec.{ltb};
+ghost use Rattle.rules.specs.Count.{anyBelow};
 ghost use Rattle.rules.specs.Limits.{maxTasks, maxFiles};
-ghost use Rattle.model.specs.Layout.{JobInBounds};
+ghost use Rattle.model.specs.Layout.{JobInBounds, jobOf};
 use crate::line::Line;
 use crate::step;
 use console::print_marks;
@@ -23,6 +26,34 @@ fn print_heading(shape: Shape) -> bool
         .text(b"; memory in blocks, each file as (maker reader) size")
         .end()
         .ok
+}
+
+// Whether a task has working memory.
+fn has_work(shape: Shape, job: &[u64; layout::JOB]) -> bool
+    requires { ⌜ JobInBounds shape (now job) ⌝ }
+    ensures { λ r. ⌜ r ≡ anyBelow (shape .tasks) (λ i. ltb 0 (jobOf (now (job .entry)) .work i)) ⌝ }
+{
+    let mut i: usize = 0;
+    while i < shape.tasks {
+        if 0 < layout::work(job, i) {
+            return true;
+        }
+        i += 1;
+    }
+    false
+}
+
+// That working memory is not shown, if a task has it. Returns whether it was written.
+fn print_note(shape: Shape, job: &[u64; layout::JOB]) -> bool
+    requires { ⌜ JobInBounds shape (now job) ⌝ }
+{
+    if has_work(shape, job) {
+        return Line::new()
+            .text(b"working memory is not shown, but it counts for the limits")
+            .end()
+            .ok;
+    }
+    true
 }
 
 // Why a fault stops it.
@@ -94,6 +125,22 @@ fn print_steps<'a>(
     print_end(progress, made)
 }
 
+// The heading, and so many steps behind those of `first`. Returns whether all was written.
+fn print_trace<'a>(
+    sheet: &'a [u8],
+    paper: &'a [u8],
+    shape: Shape,
+    job: &'a [u64; layout::JOB],
+    first: Simulation,
+    steps: u64,
+) -> bool
+    requires { ⌜ JobInBounds shape (now job) ⌝ }
+{
+    print_heading(shape)
+        && print_note(shape, job)
+        && print_steps(sheet, paper, shape, job, first, steps)
+}
+
 // Shows so many steps of a timetable behind those made, or the refusal of a text. Returns whether all was written.
 pub fn show<'a>(sheet: &'a [u8], paper: &'a [u8], made: u64, steps: u64) -> bool {
     let mut job = [0; layout::JOB];
@@ -105,5 +152,5 @@ pub fn show<'a>(sheet: &'a [u8], paper: &'a [u8], made: u64, steps: u64) -> bool
     if let Progress::Refused { number, place } = progress {
         return print_marks(sheet, paper);
     }
-    print_heading(shape) && print_steps(sheet, paper, shape, &job, first, steps)
+    print_trace(sheet, paper, shape, &job, first, steps)
 }

@@ -31,27 +31,15 @@ print-marks-requires-2 c κs = search needs
 returns-2 : tie.Need-returns-2
 returns-2 c = search needs
 
-print-heading-requires : tie.Need-print-heading-requires
-print-heading-requires c κs =
-    let r = c .before .before .before .before .before .read in
-    let sheet = c .before .before .before .before .before .before .before .before .before .args .sheet .now in
-    let e = read-accepted sheet (r .result) (r .last .1 .0) (r .ensures) _ (c .before .before .before .shape .given .1) in
-    let b = accepted-bounds sheet _ (r .last .1 .0) e in
-    (b .tasks, b .files)
-
-print-steps-requires : tie.Need-print-steps-requires
-print-steps-requires c κs =
-    let r = c .before .before .before .before .before .before .before .before .read in
-    let sheet = c .before .before .before .before .before .before .before .before .before .before .before .before .args .sheet .now in
-    let e = read-accepted sheet (r .result) (r .last .1 .0) (r .ensures) _ (c .before .before .before .before .before .before .shape .given .1) in
-    let b = accepted-bounds sheet _ (r .last .1 .0) e in
-    b
+print-trace-requires : tie.Need-print-trace-requires
+print-trace-requires c κs =
+    let r = c .before .before .before .before .before .before .read in
+    let sheet = c .before .before .before .before .before .before .before .before .before .before .args .sheet .now in
+    let e = read-accepted sheet (r .result) (r .last .1 .0) (r .ensures) _ (c .before .before .before .before .shape .given .1) in
+    accepted-bounds sheet _ (r .last .1 .0) e
 
 returns-3 : tie.Need-returns-3
 returns-3 c = search needs
-
-returns-4 : tie.Need-returns-4
-returns-4 c = search needs
 
 pub show-spec : {M : Type 1} → statement M
 show-spec =
@@ -66,7 +54,5 @@ show-spec =
     enum-known-progress
     print-marks-requires-2
     returns-2
-    print-heading-requires
-    print-steps-requires
-    returns-3
-    returns-4)
+    print-trace-requires
+    returns-3)
