@@ -186,17 +186,16 @@ pub fn work_hold<'a>(
         workOf (instanceOf shape (now (job .entry))) (scheduleOf shape (now (schedule .entry))) (asColour colour) i ⌝ }
     ensures { λ r. ⌜ Within lastTick r ⌝ }
 {
+    if layout::work(job, i) == 0 {
+        return Hold::Never;
+    }
     if layout::processor(schedule, i) == 0 {
         return Hold::Never;
     }
     if !same_colour(layout::colour_of(shape, schedule, i), colour) {
         return Hold::Never;
     }
-    if layout::work(job, i) == 0 {
-        return Hold::Never;
-    }
-    Hold::During(
-        layout::start(schedule, i),
-        release(shape, job, schedule, i),
-    )
+    let begun = layout::start(schedule, i);
+    let released = release(shape, job, schedule, i);
+    Hold::During(begun, released)
 }
