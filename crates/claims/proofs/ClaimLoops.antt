@@ -1,6 +1,6 @@
 -- One turn of each loop over the tasks or the holds, what the loops come to after all turns, and the claim made of that.
 use Prim.Native.Nat.{ℕ, _+_, _-_, _≤_, _<_, max}
-use mathlib.Core.Bool.{true}
+use mathlib.Core.Bool.{true, cond}
 use mathlib.Core.Path.{_≡_, sym, ap, _∙_}
 use native.Mathlib.Omega.{arith}
 use borrow.Author.Tests.{lt-ltb}
@@ -11,12 +11,24 @@ use Rattle.rules.specs.Validity.{Claim, makespan, peak, trueClaim}
 use Rattle.rules.proofs.CompleteLaws.{none-held}
 use Rattle.model.specs.declared.layout.Shape.{Shape}
 use Rattle.model.specs.declared.residency.Hold.{Hold}
+use Rattle.model.specs.declared.residency.Hold.the-variants.{Never, During, Since}
 use Rattle.model.specs.Layout.{Job, Entries, Bounds, instanceFrom, scheduleFrom, Placed}
 use Rattle.model.specs.Holds.{asHold}
 use Rattle.model.proofs.LayoutLaws.{file-count, task-count, maker-at, reader-at, run-at}
 use Rattle.model.proofs.StepLaws.{max-next}
-use Rattle.claims.specs.Starts.{startOf, holdCount, startIn, heldAtStart}
+use Rattle.claims.specs.Starts.{startOf, begins, holdCount, holdAt, heldAtStart}
 use Rattle.claims.proofs.RiseLaws.{file-hold, work-hold, peak-starts}
+
+-- what a function says of the start of a hold, by whether it starts; d if it does not
+module _ (h : Hold) (f : ℕ → ℕ) (d : ℕ) where
+  pub at-never : h ≡ Never → d ≡ cond (begins (asHold h)) (f (startOf (asHold h))) d
+  at-never e = rw e
+
+  pub at-during : {from end r : ℕ} → h ≡ During from end → r ≡ f from → r ≡ cond (begins (asHold h)) (f (startOf (asHold h))) d
+  at-during e q = rw e q
+
+  pub at-since : {from r : ℕ} → h ≡ Since from → r ≡ f from → r ≡ cond (begins (asHold h)) (f (startOf (asHold h))) d
+  at-since e q = rw e q
 
 module _ {b : Shape} {J : Job} {L : Entries} (f : Bounds b J L) where
   abbrev I : Instance
@@ -34,17 +46,17 @@ module _ {b : Shape} {J : Job} {L : Entries} (f : Bounds b J L) where
   -- ---- the peaks
 
   module _ (c : Colour) where
-    pub file-start : (k : ℕ) → k < b .files → (x : Hold) {r : ℕ} → asHold x ≡ holdOf I P c k → r ≡ startOf (asHold x) → r ≡ startIn I P c k
-    file-start k h x g e = e ∙ ap startOf (g ∙ sym (file-hold I P c k (omega (arith, file-count b J))))
+    pub file-at : (k : ℕ) → k < b .files → (x : Hold) → asHold x ≡ holdOf I P c k → asHold x ≡ holdAt I P c k
+    file-at k h x g = g ∙ sym (file-hold I P c k (omega (arith, file-count b J)))
 
-    pub work-start : (n : ℕ) → b .files ≤ n → (x : Hold) {r : ℕ} → asHold x ≡ workOf I P c (n - b .files) → r ≡ startOf (asHold x) → r ≡ startIn I P c n
-    work-start n h x g e =
+    pub work-at : (n : ℕ) → b .files ≤ n → (x : Hold) → asHold x ≡ workOf I P c (n - b .files) → asHold x ≡ holdAt I P c n
+    work-at n h x g =
         let q : n - b .files ≡ n - fileCount I = omega (arith, file-count b J) in
-        e ∙ ap startOf (g ∙ ap (workOf I P c) q ∙ sym (work-hold I P c n (omega (arith, file-count b J))))
+        g ∙ ap (workOf I P c) q ∙ sym (work-hold I P c n (omega (arith, file-count b J)))
 
-    pub peak-turn : (k : ℕ) {t r : ℕ} → t ≡ startIn I P c k → r ≡ held I P c t
-        → maxBelow (k + 1) (heldAtStart I P c) ≡ max (maxBelow k (heldAtStart I P c)) r
-    peak-turn k {t} {r} g e = let z : r ≡ heldAtStart I P c k = rw g at e in omega (arith, max-next (heldAtStart I P c) k)
+    pub peak-turn : (n : ℕ) (x : Hold) {r : ℕ} → asHold x ≡ holdAt I P c n → r ≡ cond (begins (asHold x)) (held I P c (startOf (asHold x))) 0
+        → maxBelow (n + 1) (heldAtStart I P c) ≡ max (maxBelow n (heldAtStart I P c)) r
+    peak-turn n x {r} g e = let z : r ≡ heldAtStart I P c n = rw g at e in omega (arith, max-next (heldAtStart I P c) n)
 
     module _ (placed : Placed b L) where
       placed-at : {i j : ℕ} → j ≡ i → i < b .tasks → isPlaced (runAt P j) ≡ true

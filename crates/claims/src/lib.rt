@@ -1,13 +1,15 @@
 // What a complete schedule has to claim: its makespan and its peaks. A total rises only where a hold starts, so a peak is
 // looked for at no other instants.
 ghost use mathlib.Core.Path.{_≡_};
+ghost use mathlib.Core.Bool.{cond};
 ghost use Prim.Native.Nat.{_+_, _<_, _≤_};
+ghost use Rattle.rules.specs.Residency.{held};
 ghost use Rattle.rules.specs.Validity.{makespan as rules-makespan, peak as rules-peak, trueClaim};
 ghost use Rattle.model.specs.Claims.{asClaim};
 ghost use Rattle.model.specs.Holds.{asHold};
 ghost use Rattle.model.specs.Colours.{asColour};
 ghost use Rattle.model.specs.Layout.{entriesOf, instanceOf, scheduleOf, InBounds, lastTick, mostHeld, Placed};
-ghost use Rattle.claims.specs.Starts.{startOf, startIn};
+ghost use Rattle.claims.specs.Starts.{startOf, begins, holdAt};
 use model::choice::greater;
 use model::claim::Claim;
 use model::colour::Colour;
@@ -39,34 +41,43 @@ pub fn makespan<'a>(
     most
 }
 
-// The tick at which the hold starts, 0 if there is none.
-fn start_of(h: Hold) -> u64
-    ensures { λ r. ⌜ r ≡ startOf (asHold h) ⌝ }
-{
-    match h {
-        Hold::Never => 0,
-        Hold::During(from, _) => from,
-        Hold::Since(from) => from,
-    }
-}
-
-// When hold n of the memory of the colour starts: the holds of the files are counted first, then those of the tasks' working memory.
-pub fn hold_start<'a>(
+// Hold n of the memory of the colour: the holds of the files are counted first, then those of the tasks' working memory.
+pub fn hold_at<'a>(
     shape: Shape,
     job: &'a [u64; layout::JOB],
     schedule: &'a [u64; layout::SCHEDULE],
     n: usize,
     colour: Colour,
-) -> u64
+) -> Hold
     requires { ⌜ InBounds shape (now job) (now schedule) ⌝ }
     requires { ⌜ n < shape .files + shape .tasks ⌝ }
-    ensures { λ r. ⌜ r ≡
-        startIn (instanceOf shape (now (job .entry))) (scheduleOf shape (now (schedule .entry))) (asColour colour) n ⌝ }
+    ensures { λ r. ⌜ asHold r ≡
+        holdAt (instanceOf shape (now (job .entry))) (scheduleOf shape (now (schedule .entry))) (asColour colour) n ⌝ }
 {
     if n < shape.files {
-        return start_of(hold_of(shape, job, schedule, n, colour));
+        return hold_of(shape, job, schedule, n, colour);
     }
-    start_of(work_hold(shape, job, schedule, n - shape.files, colour))
+    work_hold(shape, job, schedule, n - shape.files, colour)
+}
+
+// The total held in the memory of the colour when the hold starts; 0 if it never does.
+fn held_at_start<'a>(
+    shape: Shape,
+    job: &'a [u64; layout::JOB],
+    schedule: &'a [u64; layout::SCHEDULE],
+    colour: Colour,
+    h: Hold,
+) -> u64
+    requires { ⌜ InBounds shape (now job) (now schedule) ⌝ }
+    ensures { λ r. ⌜ r ≡ cond (begins (asHold h))
+        (held (instanceOf shape (now (job .entry))) (scheduleOf shape (now (schedule .entry))) (asColour colour) (startOf (asHold h))) 0 ⌝ }
+    ensures { λ r. ⌜ r ≤ mostHeld ⌝ }
+{
+    match h {
+        Hold::Never => 0,
+        Hold::During(from, _) => held_at(shape, job, schedule, colour, from),
+        Hold::Since(from) => held_at(shape, job, schedule, colour, from),
+    }
 }
 
 // The greatest total held in the memory of the colour.
@@ -86,8 +97,8 @@ pub fn peak<'a>(
     let mut most: u64 = 0;
     let mut i: usize = 0;
     while i < holds {
-        let t = hold_start(shape, job, schedule, i, colour);
-        most = greater(most, held_at(shape, job, schedule, colour, t));
+        let h = hold_at(shape, job, schedule, i, colour);
+        most = greater(most, held_at_start(shape, job, schedule, colour, h));
         i += 1;
     }
     most

@@ -1,7 +1,7 @@
 -- One turn of each loop over the files or the tasks, and what it comes to after all of them; and what the accessors read.
 use Prim.Native.Nat.{ℕ, _+_, _≤_, _<_, min}
-use mathlib.Core.Bool.{Bool, true, cond}
-use mathlib.Core.Path.{_≡_, sym, ap, _∙_}
+use mathlib.Core.Bool.{Bool, true, false, cond, _&&_}
+use mathlib.Core.Path.{_≡_, refl, sym, ap, _∙_}
 use native.Mathlib.Omega.{arith}
 use native.Mathlib.Decide.{ℕ-discrete}
 use mathlib.Core.List.{List}
@@ -15,9 +15,11 @@ use Rattle.rules.specs.Residency.{held}
 use Rattle.rules.specs.Validity.{overlaps, early, readsEarly, over}
 use Rattle.model.specs.declared.layout.Shape.{Shape}
 use Rattle.model.specs.declared.colour.Colour.the-variants.{Blue, Red}
+use Rattle.model.specs.declared.residency.Hold.{Hold}
 use Rattle.model.specs.Layout.{Job, Entries, Bounds, instanceFrom, scheduleFrom}
 use Rattle.model.proofs.LayoutLaws.{file-count, task-count, reader-at, run-at, limit-of}
-use Rattle.claims.specs.Starts.{startIn}
+use Rattle.model.specs.Holds.{asHold}
+use Rattle.claims.specs.Starts.{startOf, begins, holdAt, startsIn, startIn}
 use Rattle.runs.specs.declared.Run.{Run}
 use Rattle.runs.specs.First.{FirstOverlap}
 use Rattle.runs.specs.Scan.{noRun}
@@ -28,6 +30,10 @@ use Rattle.validator.proofs.EarlyLaws.{readerOf, first-early}
 use Rattle.validator.proofs.LeastLaws.{least-turn}
 use Rattle.validator.proofs.OverlapLaws.{lowest-overlapping}
 use Rattle.validator.proofs.OverLaws.{over-by, over-is, first-over}
+
+two-tests : (p q : Bool) (m n : ℕ) → cond p (cond q m n) n ≡ cond (p && q) m n
+two-tests true q m n = refl
+two-tests false q m n = refl
 
 module _ {b : Shape} {J : Job} {L : Entries} (f : Bounds b J L) where
   abbrev I : Instance
@@ -70,9 +76,12 @@ module _ {b : Shape} {J : Job} {L : Entries} (f : Bounds b J L) where
   -- ---- 17
 
   module _ (c : Colour) where
-    pub over-turn : (last k : ℕ) {t r : ℕ} {y : Bool} → t ≡ startIn I P c k → y ≡ over I P t → r ≡ cond y t last
-        → leastWhere (k + 1) last (overAtStart I P c) (startIn I P c) ≡ min (leastWhere k last (overAtStart I P c) (startIn I P c)) r
-    over-turn last k g q e = least-turn last (overAtStart I P c) (startIn I P c) k e (rw g at q) g
+    pub over-turn : (last n : ℕ) (x : Hold) {r : ℕ} → asHold x ≡ holdAt I P c n
+        → r ≡ cond (begins (asHold x)) (cond (over I P (startOf (asHold x))) (startOf (asHold x)) last) last
+        → leastWhere (n + 1) last (overAtStart I P c) (startIn I P c) ≡ min (leastWhere n last (overAtStart I P c) (startIn I P c)) r
+    over-turn last n x {r} g e =
+        let z : r ≡ cond (overAtStart I P c n) (startIn I P c n) last = rw g at e ∙ two-tests (startsIn I P c n) (over I P (startIn I P c n)) (startIn I P c n) last in
+        least-turn last (overAtStart I P c) (startIn I P c) n z refl refl
 
     pub over-in-total : (last : ℕ) {n : ℕ} → n ≡ b .files + b .tasks → leastWhere n last (overAtStart I P c) (startIn I P c) ≡ firstOverIn I P c last
     over-in-total last e = rw (file-count b J, task-count b J, e)

@@ -11,9 +11,9 @@ use Rattle.rules.specs.Count.{firstBelow}
 use Rattle.rules.specs.Model.{Colour, blue, red, Instance, limitOf, Schedule}
 use Rattle.rules.specs.Residency.{held}
 use Rattle.rules.specs.Validity.{over}
-use Rattle.rules.proofs.Tests.{split, or-yes}
+use Rattle.rules.proofs.Tests.{split, and-true, or-yes}
 use Rattle.rules.proofs.CountLaws.{first-is}
-use Rattle.claims.specs.Starts.{holdCount, startIn}
+use Rattle.claims.specs.Starts.{holdCount, startsIn, startIn}
 use Rattle.claims.proofs.RiseLaws.{risen}
 use Rattle.validator.specs.OverLimit.{overAtStart, firstOverIn}
 use Rattle.validator.proofs.LeastLaws.{least-default, least-bound, least-reached}
@@ -39,7 +39,7 @@ module _ (I : Instance) (P : Schedule) where
   over-risen : (c : Colour) (t : ℕ) → limitOf I c < held I P c t → OverStart I P c t
   over-risen c t l =
       let r = risen I P c t (omega arith) in
-      record { hold = r .hold; exists = r .exists; by = r .by; over = over-by c (startIn I P c (r .hold)) (omega (arith, r .most)) }
+      record { hold = r .hold; exists = r .exists; by = r .by; over = rw (r .starts) (over-by c (startIn I P c (r .hold)) (omega (arith, r .most))) }
 
   over-start : (t : ℕ) → over I P t ≡ true → OverStart I P blue t ⊎ OverStart I P red t
   unfolding over
@@ -53,7 +53,7 @@ module _ (I : Instance) (P : Schedule) where
   over-reached : (c : Colour) (last : ℕ) → firstOverIn I P c last < last → over I P (firstOverIn I P c last) ≡ true
   over-reached c last l =
       let r = least-reached last (overAtStart I P c) (startIn I P c) (holdCount I) l in
-      rw (r .3) at (r .2)
+      rw (r .3) at (and-true (startsIn I P c (r .0)) _ (r .2) .1)
 
   -- the first instant over a limit is the least such start in either memory
   pub first-over : (last : ℕ) → min (firstOverIn I P blue last) (firstOverIn I P red last) ≡ firstBelow last (over I P)

@@ -127,6 +127,13 @@ pub fn finer(text: &[u8], by: i64) -> Vec<u8> {
     write_sheet(&sheet).into_bytes()
 }
 
+/// The sheet with the same W on every task.
+pub fn all_work(text: &[u8], work: i64) -> Vec<u8> {
+    let mut sheet = read_sheet(text).expect("a sound sheet");
+    sheet.tasks.iter_mut().for_each(|t| t.work = work);
+    write_sheet(&sheet).into_bytes()
+}
+
 /// The sum of all file sizes.
 pub fn sizes(sheet: &Sheet) -> i64 {
     sheet.files.iter().map(|f| f.size).sum()

@@ -27,11 +27,11 @@ add-holds c = search needs
 loop-holds : tie.Need-loop-holds Inv-loop μ-loop
 loop-holds c = (omega arith, sym (max-none _), omega arith)
 
-hold-start-requires : tie.Need-hold-start-requires Inv-loop μ-loop
-hold-start-requires c κs = search needs
+hold-at-requires : tie.Need-hold-at-requires Inv-loop μ-loop
+hold-at-requires c κs = search needs
 
-held-at-requires : tie.Need-held-at-requires Inv-loop μ-loop
-held-at-requires c κs = search needs
+held-at-start-requires : tie.Need-held-at-start-requires Inv-loop μ-loop
+held-at-start-requires c κs = search needs
 
 greater-requires : tie.Need-greater-requires Inv-loop μ-loop
 greater-requires c κs = search needs
@@ -46,7 +46,11 @@ loop-again : tie.Need-loop-again Inv-loop μ-loop
 loop-again c =
     let l = c .before .before .before .before in
     let s = l .before .before in
-    omega (arith, peak-turn (s .pre .0) (asColour (s .args .colour)) (l .loop .i) (c .before .before .hold-start .ensures) (c .before .held-at .ensures .0))
+    omega (
+      arith,
+      peak-turn (s .pre .0) (asColour (s .args .colour)) (l .loop .i) (c .before .before .hold-at .result) (c .before .before .hold-at .ensures)
+          (c .before .held-at-start .ensures .0),
+    )
 
 returns : tie.Need-returns Inv-loop μ-loop
 returns c = let s = c .before .before .before in
@@ -60,8 +64,8 @@ peak-spec =
     μ-loop
     add-holds
     loop-holds
-    hold-start-requires
-    held-at-requires
+    hold-at-requires
+    held-at-start-requires
     greater-requires
     add-i
     loop-less

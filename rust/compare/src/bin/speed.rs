@@ -1,7 +1,7 @@
 //! How long the planners, the marker and the simulator take on sheets of 8, 32 and 64 tasks, the last also with every time a million times
-//! as long, beside the independent implementation: the median of many calls, in one run on one machine.
+//! as long and with W on every task, beside the independent implementation: the median of many calls, in one run on one machine.
 
-use compare::generate::{all_apart, all_moved, finer, large_sheet, Random};
+use compare::generate::{all_apart, all_moved, all_work, finer, large_sheet, Random};
 use compare::library::named;
 use compare::reference::{self, Planner, PLANNERS};
 use compare::simulation;
@@ -100,9 +100,9 @@ fn walk(step: impl Fn(u64) -> u64) {
     assert_eq!(made, 640);
 }
 
-/// The rows of a sheet: the planners on it, its reading, and the marker and the simulator on MemMinMin's timetable. `times` stands behind
+/// The rows of a sheet: the planners on it, its reading, and the marker and the simulator on MemMinMin's timetable. `kind` stands behind
 /// what is measured.
-fn rows(sheet: &[u8], times: &str) {
+fn rows(sheet: &[u8], kind: &str) {
     let sound = reference::read_sheet(sheet).expect("a sound sheet");
     let row = Row {
         tasks: sound.tasks.len(),
@@ -110,18 +110,18 @@ fn rows(sheet: &[u8], times: &str) {
     };
     let mut paper = vec![];
     for (name, planner) in NAMES.iter().zip(PLANNERS) {
-        paper = row.planner(&format!("{name}{times}"), planner, sheet);
+        paper = row.planner(&format!("{name}{kind}"), planner, sheet);
     }
     let read = median(|| {
         frames::mark(sheet, b"");
     });
     row.print(
-        &format!("sheet read{times}"),
+        &format!("sheet read{kind}"),
         read,
         median(|| drop(reference::read_sheet(sheet))),
     );
-    row.marker(&format!("marker{times}"), sheet, &paper);
-    row.simulator(&format!("simulator{times}"), sheet, &paper);
+    row.marker(&format!("marker{kind}"), sheet, &paper);
+    row.simulator(&format!("simulator{kind}"), sheet, &paper);
 }
 
 fn main() {
@@ -133,6 +133,7 @@ fn main() {
         rows(sheet, "");
     }
     rows(&finer(&sheets[2], 1_000_000), ", times × 1000000");
+    rows(&all_work(&sheets[2], 300), ", W on every task");
     let largest = Row {
         tasks: 64,
         files: 256,

@@ -28,14 +28,11 @@ add-holds c = search needs
 loop-holds : tie.Need-loop-holds Inv-loop μ-loop
 loop-holds c = (omega arith, sym (least-none _ _ _))
 
-hold-start-requires : tie.Need-hold-start-requires Inv-loop μ-loop
-hold-start-requires c κs = search needs
+hold-at-requires : tie.Need-hold-at-requires Inv-loop μ-loop
+hold-at-requires c κs = search needs
 
-over-at-requires : tie.Need-over-at-requires Inv-loop μ-loop
-over-at-requires c κs = search needs
-
-select-requires : tie.Need-select-requires Inv-loop μ-loop
-select-requires c κs = search needs
+start-over-requires : tie.Need-start-over-requires Inv-loop μ-loop
+start-over-requires c κs = search needs
 
 lesser-requires : tie.Need-lesser-requires Inv-loop μ-loop
 lesser-requires c κs = search needs
@@ -48,12 +45,14 @@ loop-less c = search needs
 
 loop-again : tie.Need-loop-again Inv-loop μ-loop
 loop-again c =
-    let o = c .before .before in
-    let t = o .before in
-    let l = t .before .before in
+    let o = c .before in
+    let h = o .before in
+    let l = h .before .before in
     let s = l .before .before in
-    let e = c .before .select .ensures .0 in
-    omega (arith, over-turn (s .pre) (asColour (s .args .colour)) (s .args .last) (l .loop .i) (t .hold-start .ensures) (o .over-at .ensures) e)
+    omega (
+      arith,
+      over-turn (s .pre) (asColour (s .args .colour)) (s .args .last) (l .loop .i) (h .hold-at .result) (h .hold-at .ensures) (o .start-over .ensures),
+    )
 
 returns : tie.Need-returns Inv-loop μ-loop
 returns c =
@@ -68,9 +67,8 @@ first-over-in-spec =
     μ-loop
     add-holds
     loop-holds
-    hold-start-requires
-    over-at-requires
-    select-requires
+    hold-at-requires
+    start-over-requires
     lesser-requires
     add-i
     loop-less
