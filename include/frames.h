@@ -32,11 +32,11 @@ extern "C" {
 enum frames_number {
     FRAMES_OK = 0,                   /* accepted (0), planned (bytes written), or simulated (0) */
     FRAMES_SHEET_TOO_LONG = 1,       /* the board sheet is over FRAMES_MAX_TEXT bytes (0) */
-    FRAMES_SHEET_MALFORMED = 2,      /* a line of it is none of its three forms, lacks its LF, or is missing (line) */
+    FRAMES_SHEET_MALFORMED = 2,      /* a line of it is none of its forms, lacks its LF, or is missing (line) */
     FRAMES_SHEET_OUT_OF_RANGE = 3,   /* a number of it is out of its range (line) */
     FRAMES_SHEET_NOT_ALLOWED = 4,    /* a readable line of it is not allowed there (line) */
     FRAMES_PAPER_TOO_LONG = 11,      /* the timetable is over FRAMES_MAX_TEXT bytes (0) */
-    FRAMES_PAPER_MALFORMED = 12,     /* a line of it is none of its three forms, lacks its LF, or is missing (line) */
+    FRAMES_PAPER_MALFORMED = 12,     /* a line of it is none of its forms, lacks its LF, or is missing (line) */
     FRAMES_PAPER_OUT_OF_RANGE = 13,  /* a number of it is out of its range (line) */
     FRAMES_PAPER_NOT_DUE = 14,       /* a readable line of it is not the one due (line) */
     FRAMES_OVERLAP = 15,             /* two runs on one processor share an instant: each starts before the other's finish (lowest such task) */
@@ -63,7 +63,7 @@ void frames_mem_min_min(const uint8_t *sheet, size_t sheet_len, uint8_t *out, si
 
 /* The same by HEFT, MemHEFT's plain parent, which does not look at the memories: it never answers 21, and its timetable may be over a limit. The
  * claim is true all the same; frames_mark accepts the timetable on this sheet, or answers 17 and no other number. When each limit is at least the
- * sum of all file sizes, frames_mem_heft gives the same numbers and the same bytes. */
+ * sum of all file sizes and all working memory (W), frames_mem_heft gives the same numbers and the same bytes. */
 void frames_heft(const uint8_t *sheet, size_t sheet_len, uint8_t *out, size_t out_len, uint64_t result[3]);
 
 /* The same by MINMIN, MemMinMin's plain parent, with frames_mem_min_min in place of frames_mem_heft. */
@@ -76,7 +76,8 @@ void frames_min_min(const uint8_t *sheet, size_t sheet_len, uint8_t *out, size_t
  * tick ahead is a step left. On a stop at the first faulty tick number and place are 15, 16 or 17 and that tick, and the state is that of the step
  * before; on a refused text they are the marker's, and the state is that before the first; in both cases the span is 0. The steps made are those of
  * earlier calls too; the step onto a faulty tick is not one of them, and on a refused text they are 0. At the end number and place are 0 and the
- * span is given; the claim may be untrue, and the time may be one tick past the span, until which what a relay reads is held.
+ * span is given; the claim may be untrue, and the time may be one tick past the span, until which what a relay reads and its working
+ * memory are held. Working memory counts for 17 and its holds for the steps, but the state does not show it.
  * running[p - 1]: the task that processor p runs, or 0. contents[k]: where file k, counted from 0 in the sheet's order, is held: 0 nowhere, 1 in blue
  * memory, 2 in red, 3 in both. Every call fills all three arrays; behind the board's processors and the sheet's files they are 0. */
 void frames_simulate(const uint8_t *sheet, size_t sheet_len, const uint8_t *paper, size_t paper_len, uint64_t made, uint64_t steps,

@@ -173,16 +173,17 @@ static void simulator(void) {
     expect_state("an early move", &s, 0, 1, 2, 2);
 }
 
-/* The largest sheet with the longest times, 64 tasks and 256 files, and a timetable that moves every file, makers on processor 1, readers on 9. */
+/* The largest sheet with the longest times, 64 tasks and 256 files, and a timetable that moves every file, makers on processor 1, readers on 9;
+ * with the greatest working memory for every task, or without any. */
 static char large[FRAMES_MAX_TEXT];
 static char large_paper[FRAMES_MAX_TEXT];
 
-static void make_large(void) {
+static void make_large(int with_work) {
     char *s = large;
     char *p = large_paper;
     s += sprintf(s, "(board (blue 8 999999999) (red 8 999999999))\n");
     for (int i = 1; i <= 64; i++) {
-        s += sprintf(s, "(task %d 1000000000 1000000000)\n", i);
+        s += sprintf(s, "(task %d 1000000000 1000000000%s)\n", i, with_work ? " 1000000" : "");
         p += sprintf(p, "(run %d %d %lld)\n", i, i <= 32 ? 1 : 9, 1000000000LL * (i + (i <= 32 ? 0 : 1)));
     }
     for (int i = 1; i <= 32; i++) {
@@ -191,22 +192,49 @@ static void make_large(void) {
             p += sprintf(p, "(move %d %d 33000000000)\n", i, j);
         }
     }
-    sprintf(p, "(claim 66000000000 256000000 256000000)\n");
+    unsigned peak = with_work ? 257000000 : 256000000;
+    sprintf(p, "(claim 66000000000 %u %u)\n", peak, peak);
 }
 
-/* Numbers of twelve digits come through whole, and those of the largest timetable. */
+/* Numbers of twelve digits come through whole. */
 static void wide_numbers(void) {
     uint64_t verdict[5];
     text sheet = as_text("(board (blue 1 0) (red 1 0))\n(task 1 1 0)\n");
     text latest = as_text("(run 1 2 999999999999)\n(claim 999999999999 0 0)\n");
     text later = as_text("(run 1 1 999999999999)\n(claim 999999999999 0 0)\n");
-    text s = as_text(large), p = as_text(large_paper);
     frames_mark(sheet.bytes, sheet.len, latest.bytes, latest.len, verdict);
     EXPECT("a span of 12 digits", verdict, FRAMES_OK, 0, 999999999999, 0, 0);
     frames_mark(sheet.bytes, sheet.len, later.bytes, later.len, verdict);
     EXPECT("a span of 13 digits", verdict, FRAMES_CLAIM_UNTRUE, 0, 0, 0, 0);
+}
+
+/* The largest timetable, with working memory and without. The one with it is then measured. */
+static void largest(void) {
+    uint64_t verdict[5];
+    make_large(0);
+    text s = as_text(large), p = as_text(large_paper);
     frames_mark(s.bytes, s.len, p.bytes, p.len, verdict);
     EXPECT("the largest timetable", verdict, FRAMES_OK, 0, 66000000000, 256000000, 256000000);
+    make_large(1);
+    s = as_text(large), p = as_text(large_paper);
+    frames_mark(s.bytes, s.len, p.bytes, p.len, verdict);
+    EXPECT("the largest timetable, with working memory", verdict, FRAMES_OK, 0, 66000000000, 257000000, 257000000);
+}
+
+/* Working memory over a limit: 21 for a planner, 17 for a timetable and for the simulator, which does not show it otherwise. */
+static void working_memory(void) {
+    uint64_t verdict[5];
+    simulation s;
+    text sheet = as_text("(board (blue 1 4) (red 1 4))\n(task 1 2 2 5)\n");
+    text zero = as_text("(board (blue 1 4) (red 1 4))\n(task 1 2 2 0)\n");
+    text table = as_text("(run 1 1 3)\n(claim 5 5 0)\n");
+    uint8_t out[64];
+    planned(0, "W over both limits, MemHEFT", sheet, out, sizeof out, FRAMES_STUCK, 0, 2);
+    planned(0, "a written 0, MemHEFT", zero, out, sizeof out, FRAMES_SHEET_OUT_OF_RANGE, 2, 0);
+    frames_mark(sheet.bytes, sheet.len, table.bytes, table.len, verdict);
+    EXPECT("W over a limit", verdict, FRAMES_OVER_LIMIT, 3, 0, 0, 0);
+    simulated("W over a limit", &s, sheet, table, 0, 1024);
+    EXPECT("W over a limit, simulated", s.result, FRAMES_OVER_LIMIT, 3, 0, 0, 0, 0);
 }
 
 /* The calls that are measured. Each keeps its answer in `last`. */
@@ -319,10 +347,11 @@ int main(void) {
     planners_null_and_short();
     over_a_limit();
     simulator();
-    make_large();
     wide_numbers();
+    working_memory();
+    largest();
     stacks();
     threads();
-    puts("calls from C: NULL, short buffers, plans over a limit, wide numbers, the simulator's arrays, stack and threads as include/frames.h says");
+    puts("calls from C: NULL, short buffers, plans over a limit, wide numbers, working memory, the simulator's arrays, stack and threads as include/frames.h says");
     return 0;
 }

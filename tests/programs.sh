@@ -58,6 +58,12 @@ sed 's/(run 1 2 .*/(run 1 2 1000000000000)/' last_tick.paper > thirteen.paper
 sed '1s/ 0)/ 1000000000)/' tick.sheet > limit.sheet
 printf '(%s)\n' 'board (blue 1 9) (red 1 9)' 'task 1 1000000000 1000000000' 'task 2 1000000000 1000000000' 'file 1 2 9 1000000000' > seconds.sheet
 seconds=$(printf '(%s)\n' 'run 1 1 0' 'run 2 1 1000000000' 'claim 2000000000 9 0')$'\n'
+printf '(%s)\n' 'board (blue 2 5) (red 1 0)' 'task 1 4 9 3' 'task 2 4 9 3' > work.sheet
+waits=$(printf '(%s)\n' 'run 1 1 0' 'run 2 1 4' 'claim 8 3 0')$'\n'
+together=$(printf '(%s)\n' 'run 1 1 0' 'run 2 2 0' 'claim 4 6 0')$'\n'
+printf '%s' "$together" > together.paper
+sed 's/ 3)/ 0)/' work.sheet > zero_work.sheet
+sed 's/ 3)/ 6)/' work.sheet > much_work.sheet
 sed '2s/.*//' paper > empty_line.paper
 { head -n 1 paper; printf '(run\t2 1\\ 3)\033[31m\377\n'; tail -n +3 paper; } > control.paper
 escaped='(run\x092 1\\ 3)\x1b[31m\xff'
@@ -113,6 +119,10 @@ expect 'HEFT and MINMIN apart' 'frameplan heft < apart.sheet; frameplan minmin <
 expect 'all four apart' 'for p in heft memheft minmin memminmin; do frameplan $p < four.sheet; done' "$four" ''
 expect 'times of ten digits' 'for p in heft memheft minmin memminmin; do frameplan $p < seconds.sheet; done' "$seconds$seconds$seconds$seconds" ''
 expect 'a limit of ten digits' 'frameplan < limit.sheet' $'(refused 3 1)\n' ''
+expect 'a task that waits for working memory' 'frameplan < work.sheet; frameplan memminmin < work.sheet' "$waits$waits" ''
+expect 'working memory, the plain planners' 'frameplan heft < work.sheet; frameplan minmin < work.sheet' "$together$together" ''
+expect 'working memory over both limits' 'frameplan < much_work.sheet' $'(refused 21 0)\n' ''
+expect 'working memory written as 0' 'frameplan < zero_work.sheet' $'(refused 3 2)\n' ''
 expect 'an unknown planner' 'frameplan memhef < sheet' '' "$usage"
 expect 'a planner in capitals' 'frameplan HEFT < sheet' '' "$usage"
 expect 'an empty argument' 'frameplan "" < sheet' '' "$usage"
@@ -136,6 +146,8 @@ expect 'a start of thirteen digits' 'framemark tick.sheet thirteen.paper' $'(ref
 expect 'a span over the range' 'framemark tick.sheet over.paper' $'(refused 18 0)\n' ''
 expect 'a plain plan over a limit' 'framemark limits.sheet <(frameplan heft < limits.sheet)' $'(refused 17 0)\n' ''
 expect 'a relay whose files together are over a limit' 'framemark relay_tight.sheet relay.paper' $'(refused 17 2)\n' ''
+expect 'working memory over a limit' 'framemark work.sheet together.paper' $'(refused 17 0)\n' ''
+expect 'working memory written as 0, the line' 'framemark zero_work.sheet together.paper' $'(refused 3 2)\n(task 1 4 9 0)\n' ''
 expect 'an absent line' 'framemark sheet short.paper' $'(refused 12 6)\n' ''
 expect 'an absent line of the sheet' 'framemark board.sheet paper' $'(refused 2 2)\n' ''
 expect 'an empty line' 'framemark sheet empty_line.paper' $'(refused 12 2)\n' ''

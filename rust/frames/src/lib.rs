@@ -382,6 +382,21 @@ mod tests {
         assert_eq!((past.progress, past.time), (Progress::Ended { span }, span));
     }
 
+    /// Working memory: two tasks that could run at once, but for it.
+    #[test]
+    fn working_memory() {
+        let sheet = b"(board (blue 2 5) (red 1 0))\n(task 1 4 9 3)\n(task 2 4 9 3)\n";
+        let waits = plan(Planner::MemHeft, sheet).unwrap().timetable;
+        assert_eq!(waits, b"(run 1 1 0)\n(run 2 1 4)\n(claim 8 3 0)\n");
+        let together = plan(Planner::Heft, sheet).unwrap().timetable;
+        assert_eq!(together, b"(run 1 1 0)\n(run 2 2 0)\n(claim 4 6 0)\n");
+        let over = Verdict::Refused(Refusal::OverLimit { tick: 0 });
+        assert_eq!(mark(sheet, &together), over);
+        let zero = b"(board (blue 1 5) (red 1 0))\n(task 1 4 9 0)\n";
+        let written = Refusal::SheetOutOfRange { line: 2 };
+        assert_eq!(plan(Planner::MemHeft, zero), Err(written));
+    }
+
     #[test]
     fn longest_times_planned() {
         let sheet = b"(board (blue 1 0) (red 1 0))\n(task 1 1000000000 1000000000)\n";
