@@ -352,6 +352,7 @@ int main(void) {
     largest();
     stacks();
     threads();
-    puts("calls from C: NULL, short buffers, plans over a limit, wide numbers, working memory, the simulator's arrays, stack and threads as include/frames.h says");
+    puts("calls from C: NULL, short buffers, plans over a limit, wide numbers, working memory, the simulator's arrays, stack and threads "
+         "as include/frames.h says");
     return 0;
 }

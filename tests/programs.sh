@@ -195,10 +195,10 @@ expect 'several papers, closed standard output' 'framemark sheet paper zero.pape
     $'framemark: standard output: Bad file descriptor\n'
 
 # ---- framewatch: the traces of tests/traces, each with the numbers of its file .args if it has one
-for trace in "$traces"/*.trace; do
-    name=${trace%.trace}
+for sheet in "$traces"/*.sheet; do
+    name=${sheet%.sheet}
     numbers=$(cat "$name.args" 2> /dev/null || true)
-    expect "the trace $(basename "$name")" "framewatch '$name.sheet' '$name.paper' $numbers" "$(cat "$trace")"$'\n' ''
+    expect "the trace $(basename "$name")" "framewatch '$name.sheet' '$name.paper' $numbers" "$(cat "$name.trace")"$'\n' ''
 done
 usage='usage: framewatch SHEET PAPER [STEPS [MADE]]'$'\n'
 trace=$(cat "$traces/course.trace")$'\n'

@@ -1,4 +1,5 @@
--- One turn of each loop over the tasks or the holds, what the loops come to after all turns, and the claim made of that.
+-- What is said of the start of a hold, by its case; one turn of each loop over the tasks or the holds, what the loops come to after all turns, and the claim
+-- made of that.
 use Prim.Native.Nat.{ℕ, _+_, _-_, _≤_, _<_, max}
 use mathlib.Core.Bool.{true, cond}
 use mathlib.Core.Path.{_≡_, sym, ap, _∙_}
@@ -16,7 +17,7 @@ use Rattle.model.specs.Layout.{Job, Entries, Bounds, instanceFrom, scheduleFrom
 use Rattle.model.specs.Holds.{asHold}
 use Rattle.model.proofs.LayoutLaws.{file-count, task-count, maker-at, reader-at, run-at}
 use Rattle.model.proofs.StepLaws.{max-next}
-use Rattle.claims.specs.Starts.{startOf, begins, holdCount, holdAt, heldAtStart}
+use Rattle.claims.specs.Starts.{startOf, begins, holdCount, nthHold, heldAtStart}
 use Rattle.claims.proofs.RiseLaws.{file-hold, work-hold, peak-starts}
 
 -- what a function says of the start of a hold, by whether it starts; d if it does not
@@ -46,15 +47,15 @@ module _ {b : Shape} {J : Job} {L : Entries} (f : Bounds b J L) where
   -- ---- the peaks
 
   module _ (c : Colour) where
-    pub file-at : (k : ℕ) → k < b .files → (x : Hold) → asHold x ≡ holdOf I P c k → asHold x ≡ holdAt I P c k
+    pub file-at : (k : ℕ) → k < b .files → (x : Hold) → asHold x ≡ holdOf I P c k → asHold x ≡ nthHold I P c k
     file-at k h x g = g ∙ sym (file-hold I P c k (omega (arith, file-count b J)))
 
-    pub work-at : (n : ℕ) → b .files ≤ n → (x : Hold) → asHold x ≡ workOf I P c (n - b .files) → asHold x ≡ holdAt I P c n
+    pub work-at : (n : ℕ) → b .files ≤ n → (x : Hold) → asHold x ≡ workOf I P c (n - b .files) → asHold x ≡ nthHold I P c n
     work-at n h x g =
         let q : n - b .files ≡ n - fileCount I = omega (arith, file-count b J) in
         g ∙ ap (workOf I P c) q ∙ sym (work-hold I P c n (omega (arith, file-count b J)))
 
-    pub peak-turn : (n : ℕ) (x : Hold) {r : ℕ} → asHold x ≡ holdAt I P c n → r ≡ cond (begins (asHold x)) (held I P c (startOf (asHold x))) 0
+    pub peak-turn : (n : ℕ) (x : Hold) {r : ℕ} → asHold x ≡ nthHold I P c n → r ≡ cond (begins (asHold x)) (held I P c (startOf (asHold x))) 0
         → maxBelow (n + 1) (heldAtStart I P c) ≡ max (maxBelow n (heldAtStart I P c)) r
     peak-turn n x {r} g e = let z : r ≡ heldAtStart I P c n = rw g at e in omega (arith, max-next (heldAtStart I P c) n)
 

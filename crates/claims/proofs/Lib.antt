@@ -2,5 +2,5 @@
 
 -- totals rise only where a hold starts: the peak
 pub mod RiseLaws
--- the loops over the tasks and the files, and the claim that they come to
+-- the loops over the tasks and the holds, and the claim that they come to
 pub mod ClaimLoops

@@ -13,7 +13,7 @@ use Rattle.rules.specs.Validity.{peak}
 use Rattle.rules.proofs.Tests.{by-order, clash, and-true, cond-less, cond-under}
 use Rattle.rules.proofs.CountLaws.{sum-less, sum-zero, max-bound, max-under}
 use Rattle.rules.proofs.ResidencyLaws.{held-is}
-use Rattle.claims.specs.Starts.{startOf, begins, holdCount, holdAt, startsIn, startIn, heldAtStart}
+use Rattle.claims.specs.Starts.{startOf, begins, holdCount, nthHold, startsIn, startIn, heldAtStart}
 
 -- a hold that covers the first tick starts there
 starts-first : (h : Hold) → covers h 0 ≡ true → startOf h ≡ 0
@@ -49,19 +49,19 @@ pub record Risen (I : Instance) (P : Schedule) (c : Colour) (t : ℕ) : Type 0 w
   pub most : held I P c t ≤ held I P c (startIn I P c hold)
 
 module _ (I : Instance) (P : Schedule) (c : Colour) where
-  pub file-hold : (k : ℕ) → k < fileCount I → holdAt I P c k ≡ holdOf I P c k
+  pub file-hold : (k : ℕ) → k < fileCount I → nthHold I P c k ≡ holdOf I P c k
   file-hold k l = rw (lt-ltb k (fileCount I) l)
 
-  pub work-hold : (n : ℕ) → fileCount I ≤ n → holdAt I P c n ≡ workOf I P c (n - fileCount I)
+  pub work-hold : (n : ℕ) → fileCount I ≤ n → nthHold I P c n ≡ workOf I P c (n - fileCount I)
   work-hold n l = rw (le-ltb n (fileCount I) l)
 
-  work-behind : (i : ℕ) → holdAt I P c (fileCount I + i) ≡ workOf I P c i
+  work-behind : (i : ℕ) → nthHold I P c (fileCount I + i) ≡ workOf I P c i
   work-behind i =
       let e : fileCount I + i - fileCount I ≡ i = omega arith in
       work-hold (fileCount I + i) (omega arith) ∙ ap (workOf I P c) e
 
   -- one that starts at t
-  starts-at : (n : ℕ) → n < holdCount I → (h : Hold) → holdAt I P c n ≡ h → (t : ℕ) → covers h t ≡ true → startOf h ≡ t → Risen I P c t
+  starts-at : (n : ℕ) → n < holdCount I → (h : Hold) → nthHold I P c n ≡ h → (t : ℕ) → covers h t ≡ true → startOf h ≡ t → Risen I P c t
   starts-at n l h e t p q =
       let z : startIn I P c n ≡ t = ap startOf e ∙ q in
       record { hold = n; exists = l; starts = ap begins e ∙ covers-begins h t p; by = omega arith; most = rw z (omega arith) }

@@ -20,15 +20,15 @@ begins (since from) = true
 abbrev pub holdCount : Instance → ℕ
 holdCount I = fileCount I + taskCount I
 
-abbrev pub holdAt : Instance → Schedule → Colour → ℕ → Hold
-holdAt I P c n = cond (ltb n (fileCount I)) (holdOf I P c n) (workOf I P c (n - fileCount I))
+abbrev pub nthHold : Instance → Schedule → Colour → ℕ → Hold
+nthHold I P c n = cond (ltb n (fileCount I)) (holdOf I P c n) (workOf I P c (n - fileCount I))
 
 -- whether hold n of memory c starts, and when
 abbrev pub startsIn : Instance → Schedule → Colour → ℕ → Bool
-startsIn I P c n = begins (holdAt I P c n)
+startsIn I P c n = begins (nthHold I P c n)
 
 abbrev pub startIn : Instance → Schedule → Colour → ℕ → ℕ
-startIn I P c n = startOf (holdAt I P c n)
+startIn I P c n = startOf (nthHold I P c n)
 
 -- the total held in memory c when its hold n starts; 0 if it never does
 abbrev pub heldAtStart : Instance → Schedule → Colour → ℕ → ℕ

@@ -9,7 +9,7 @@ ghost use Rattle.model.specs.Claims.{asClaim};
 ghost use Rattle.model.specs.Holds.{asHold};
 ghost use Rattle.model.specs.Colours.{asColour};
 ghost use Rattle.model.specs.Layout.{entriesOf, instanceOf, scheduleOf, InBounds, lastTick, mostHeld, Placed};
-ghost use Rattle.claims.specs.Starts.{startOf, begins, holdAt};
+ghost use Rattle.claims.specs.Starts.{startOf, begins, nthHold};
 use model::choice::greater;
 use model::claim::Claim;
 use model::colour::Colour;
@@ -42,7 +42,7 @@ pub fn makespan<'a>(
 }
 
 // Hold n of the memory of the colour: the holds of the files are counted first, then those of the tasks' working memory.
-pub fn hold_at<'a>(
+pub fn nth_hold<'a>(
     shape: Shape,
     job: &'a [u64; layout::JOB],
     schedule: &'a [u64; layout::SCHEDULE],
@@ -52,7 +52,7 @@ pub fn hold_at<'a>(
     requires { ⌜ InBounds shape (now job) (now schedule) ⌝ }
     requires { ⌜ n < shape .files + shape .tasks ⌝ }
     ensures { λ r. ⌜ asHold r ≡
-        holdAt (instanceOf shape (now (job .entry))) (scheduleOf shape (now (schedule .entry))) (asColour colour) n ⌝ }
+        nthHold (instanceOf shape (now (job .entry))) (scheduleOf shape (now (schedule .entry))) (asColour colour) n ⌝ }
 {
     if n < shape.files {
         return hold_of(shape, job, schedule, n, colour);
@@ -97,7 +97,7 @@ pub fn peak<'a>(
     let mut most: u64 = 0;
     let mut i: usize = 0;
     while i < holds {
-        let h = hold_at(shape, job, schedule, i, colour);
+        let h = nth_hold(shape, job, schedule, i, colour);
         most = greater(most, held_at_start(shape, job, schedule, colour, h));
         i += 1;
     }

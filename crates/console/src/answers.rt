@@ -68,7 +68,7 @@ pub fn print_answer(a: Answer, out: &[u8]) -> bool
 }
 
 // How the timetable is marked that an answer says was written. Nothing is printed for a refusal.
-pub fn print_mark<'a>(sheet: &'a [u8], a: Answer, out: &'a [u8]) -> bool
+pub fn print_plan_mark<'a>(sheet: &'a [u8], a: Answer, out: &'a [u8]) -> bool
     requires { ⌜ LongEnough a (now out) ⌝ }
 {
     if a.number != 0 {

@@ -6,10 +6,10 @@ mod input;
 mod planners;
 
 pub use answers::print_answer;
-pub use answers::print_mark;
 pub use answers::print_marks;
 pub use answers::print_number;
 pub use answers::print_numbers;
+pub use answers::print_plan_mark;
 pub use answers::print_verdict;
 pub use errors::report;
 pub use escape::write_escaped;

@@ -22,7 +22,7 @@ use Rattle.rules.proofs.PlannerLaws.{plannerEnds, plannerExact, plansShort, pla
 use Rattle.rules.proofs.CallsExactLaws.{markCall, planCall}
 use Rattle.rules.proofs.KeptLaws.{keptMarks, keptPlans, keptSimulations}
 use Rattle.rules.proofs.ChangedLaws.{changedMarks}
-use Rattle.rules.proofs.WorkingMemoryLaws.{marksBeforeWork, plansBeforeWork, simulationsBeforeWork}
+use Rattle.rules.proofs.BeforeWorkLaws.{marksBeforeWork, changedForWork, plansBeforeWork, simulationsBeforeWork}
 use Rattle.rules.proofs.PlainPlannerLaws.{heftTrials, plainExact, neverStuck, planMarked, plainParent, ampleReadBack}
 use Rattle.rules.specs.Simulation.{Simulation, simulate}
 use Rattle.rules.proofs.SimulatorLaws.{simulatorLaw, simulate-sheet, simulate-timetable}
@@ -47,7 +47,8 @@ mark-demands sheet paper = record {
   );
   kept = keptMarks sheet paper;
   changed = changedMarks sheet paper;
-  beforeWork = marksBeforeWork sheet paper;
+  formKept = marksBeforeWork sheet paper;
+  formChanged = changedForWork sheet paper;
 }
 
 pub marker-demands : (sheet paper : List ℕ) {v : Verdict} → v ≡ mark sheet paper → MarkerDemands sheet paper v
@@ -81,7 +82,7 @@ module _ (R : Planner) (sheet buffer : List ℕ) where
     trials = λ I e. let q = plan-trials R sheet buffer I e in (q, rw q (trialBound R I));
     inRange = λ I e n. written-range I e (plannerExact R sheet buffer I e .written n);
     kept = keptPlans R sheet buffer;
-    beforeWork = plansBeforeWork R sheet buffer;
+    formKept = plansBeforeWork R sheet buffer;
   }
 
   pub planner-demands : {a : Answer} → a ≡ plan R sheet buffer → PlannerDemands R sheet buffer a
@@ -115,7 +116,7 @@ module _ (sheet paper : List ℕ) (made steps : ℕ) where
       (λ f. ap (λ a. a .progress) (simulate-timetable sheet paper I w k s (scheduleFaults I paper w k .1 f) made steps)),
     );
     kept = keptSimulations sheet paper made steps;
-    beforeWork = simulationsBeforeWork sheet paper made steps;
+    formKept = simulationsBeforeWork sheet paper made steps;
   }
 
   pub simulator-demands : {a : Simulation} → a ≡ simulate sheet paper made steps → SimulatorDemands sheet paper made steps a

@@ -4,7 +4,7 @@ use mathlib.Core.Path.{_≡_}
 use mathlib.Core.Logic.{_↔_}
 use mathlib.Core.List.{List}
 use lib.ListN.{length}
-use Rattle.rules.specs.Limits.{maxText, former}
+use Rattle.rules.specs.Limits.{maxText, former, beforeWork}
 use Rattle.rules.specs.Model.{Instance, taskCount}
 use Rattle.rules.specs.Validity.{Verdict, refusedBy}
 use Rattle.rules.specs.Scheduling.{Planner, parentOf, outcome}
@@ -15,7 +15,7 @@ use Rattle.rules.specs.Promises.{MarkedOrRefused, MarkedExactly, WrittenOrRefus
 use Rattle.rules.specs.CallsExact.{Marking, Planned}
 use Rattle.rules.specs.PlainPlanners.{PlannedPlainly, MarkedBack}
 use Rattle.rules.specs.FinerTicks.{RefusedForWidth, KeptMark, KeptPlan, KeptSimulation, InRange}
-use Rattle.rules.specs.WorkingMemory.{MarkBeforeWork, PlanBeforeWork, SimulationBeforeWork}
+use Rattle.rules.specs.WorkingMemory.{RefusedForWork, MarkBeforeWork, PlanBeforeWork, SimulationBeforeWork}
 use Rattle.rules.specs.SheetFaults.{SheetFault}
 use Rattle.rules.specs.ScheduleFaults.{ScheduleFault}
 use Rattle.rules.specs.Simulation.{Simulation, refusedBy as refusedText}
@@ -39,8 +39,10 @@ pub record MarkerDemands (sheet paper : List ℕ) (v : Verdict) : Type 0 where
   pub kept : KeptMark sheet paper v
   -- and such a refusal is not given now. Not: ten digits refused as they were
   pub changed : RefusedForWidth sheet paper (markBy former sheet paper) → v ≡ markBy former sheet paper → ⊥
-  -- Order 6: on a sheet without W the mark is that of the rules before it. Not: a W held that no line has
-  pub beforeWork : MarkBeforeWork sheet paper v
+  -- Order 6: the mark that a reader gives who does not know the form with W, or that one refuses a line for it. Not: an old line read otherwise
+  pub formKept : MarkBeforeWork sheet paper v
+  -- and such a refusal is not given now. Not: a line with W refused by 2
+  pub formChanged : RefusedForWork sheet (markBy beforeWork sheet paper) → v ≡ markBy beforeWork sheet paper → ⊥
 
 -- what every planner's answer a promises, with the bytes that the lent buffer then holds
 pub record PlannerDemands (R : Planner) (sheet buffer : List ℕ) (a : Answer) : Type 0 where
@@ -66,8 +68,8 @@ pub record PlannerDemands (R : Planner) (sheet buffer : List ℕ) (a : Answer) :
   pub inRange : (I : Instance) → readInstance sheet ≡ accepted I → a .number ≡ 0 → (w : Written R I buffer a) × InRange I (w .rule .schedule)
   -- the answer that the former widths give, or that one refuses the sheet for a number too long or too large. Not: another plan for an old sheet
   pub kept : KeptPlan R sheet buffer a
-  -- Order 6: on a sheet without W the whole answer is that of the rules before it. Not: a plan that waits for a W that no line has
-  pub beforeWork : PlanBeforeWork R sheet buffer a
+  -- Order 6: the answer by a reader that does not know the form with W, or that one refuses a line for it. Not: another plan for a sheet without W
+  pub formKept : PlanBeforeWork R sheet buffer a
 
 -- what the answer of a memory-aware planner promises besides
 pub record AwareDemands (R : Planner) (sheet buffer : List ℕ) (a : Answer) : Type 0 where
@@ -107,5 +109,5 @@ pub record SimulatorDemands (sheet paper : List ℕ) (made steps : ℕ) (a : Sim
   -- Order 5: the answer that the former widths give, or the marker by them refuses a line for a number too long or too large. Not: another state for an
   -- old timetable
   pub kept : KeptSimulation sheet paper made steps a
-  -- Order 6: on a sheet without W the whole answer is that of the rules before it. Not: a step for a W that no line has
-  pub beforeWork : SimulationBeforeWork sheet paper made steps a
+  -- Order 6: the answer by a reader that does not know the form with W, or the marker by it refuses a line for it. Not: another state for a sheet without W
+  pub formKept : SimulationBeforeWork sheet paper made steps a

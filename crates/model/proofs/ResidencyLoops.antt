@@ -5,7 +5,7 @@ use mathlib.Core.Path.{_≡_}
 use native.Mathlib.Omega.{arith}
 use Rattle.rules.specs.Count.{sumWhere, maxBelow}
 use Rattle.rules.specs.Model.{Colour, Instance, Schedule, workAt, sizeAt}
-use Rattle.rules.specs.Residency.{covers, settles, holdOf, workOf, isHeld, isWorking, filesHeld, workHeld, settlesAt, workSettlesAt, filesHorizon, workHorizon}
+use Rattle.rules.specs.Residency.{covers, settles, holdOf, workOf, isHeld, isWorkHeld, filesHeld, workHeld, settlesAt, workSettlesAt, filesHorizon, workHorizon}
 use Rattle.model.specs.declared.layout.Shape.{Shape}
 use Rattle.model.specs.declared.residency.Hold.{Hold}
 use Rattle.model.specs.Layout.{Job, Entries, Bounds, instanceFrom, scheduleFrom}
@@ -40,15 +40,15 @@ module _ {b : Shape} {J : Job} {L : Entries} (f : Bounds b J L) (c : Colour) whe
 
   module _ {i : ℕ} (h : i < b .tasks) where
     pub work-turn : (t r s : ℕ) (x : Hold) (y : Bool) → asHold x ≡ workOf I P c i → y ≡ covers (asHold x) t → s ≡ J .work i → r ≡ cond y s 0
-        → sumWhere (i + 1) (isWorking I P c t) (workAt I) ≡ sumWhere i (isWorking I P c t) (workAt I) + r
-    work-turn t r s x y g q z e = sum-turn i (isWorking I P c t) (workAt I) (rw z at e) (rw g at q) (work-at b J i h)
+        → sumWhere (i + 1) (isWorkHeld I P c t) (workAt I) ≡ sumWhere i (isWorkHeld I P c t) (workAt I) + r
+    work-turn t r s x y g q z e = sum-turn i (isWorkHeld I P c t) (workAt I) (rw z at e) (rw g at q) (work-at b J i h)
 
     pub work-horizon-turn : (r : ℕ) (x : Hold) → asHold x ≡ workOf I P c i → r ≡ settles (asHold x)
         → maxBelow (i + 1) (workSettlesAt I P c) ≡ max (maxBelow i (workSettlesAt I P c)) r
     work-horizon-turn r x g q = let z : r ≡ workSettlesAt I P c i = rw g at q in omega (arith, max-next (workSettlesAt I P c) i)
 
   module _ {n : ℕ} (e : n ≡ b .tasks) where
-    pub work-total : (t : ℕ) → sumWhere n (isWorking I P c t) (workAt I) ≡ workHeld I P c t
+    pub work-total : (t : ℕ) → sumWhere n (isWorkHeld I P c t) (workAt I) ≡ workHeld I P c t
     unfolding workHeld
     work-total t = rw (task-count b J, e)
 

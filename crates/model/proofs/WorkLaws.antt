@@ -1,9 +1,8 @@
 -- What the accessors read of a task's run, as the rules have it: the hold of its working memory.
-use Prim.Native.Nat.{ℕ, _≤_, _<_}
+use Prim.Native.Nat.{ℕ, _<_}
 use mathlib.Core.Bool.{Bool, true, false}
 use mathlib.Core.Path.{_≡_, sym, ap, _∙_}
 use native.Mathlib.Omega.{arith}
-use borrow.Author.Tests.{lt-ltb}
 use Rattle.rules.specs.Model.{Colour, sameColour, Instance, Schedule, runAt, colourOf, releaseAt}
 use Rattle.rules.specs.Residency.{never, during, workOf}
 use Rattle.rules.proofs.HoldLaws.{work-unplaced, work-elsewhere, work-idle, work-held}

@@ -15,7 +15,7 @@ use super::residency::settles;
 use super::residency::work_hold;
 
 // The sizes of the files held in the memory of the colour at tick t.
-fn files_at<'a>(
+fn files_held<'a>(
     shape: Shape,
     job: &'a [u64; layout::JOB],
     schedule: &'a [u64; layout::SCHEDULE],
@@ -37,8 +37,8 @@ fn files_at<'a>(
     sum
 }
 
-// The working memory held in it at tick t.
-fn work_at<'a>(
+// The working memory held in the memory of the colour at tick t.
+fn work_held<'a>(
     shape: Shape,
     job: &'a [u64; layout::JOB],
     schedule: &'a [u64; layout::SCHEDULE],
@@ -73,7 +73,7 @@ pub fn held_at<'a>(
         held (instanceOf shape (now (job .entry))) (scheduleOf shape (now (schedule .entry))) (asColour colour) t ⌝ }
     ensures { λ r. ⌜ r ≤ mostHeld ⌝ }
 {
-    files_at(shape, job, schedule, colour, t) + work_at(shape, job, schedule, colour, t)
+    files_held(shape, job, schedule, colour, t) + work_held(shape, job, schedule, colour, t)
 }
 
 // A tick from which on the files in the memory of the colour change no more.
@@ -97,7 +97,7 @@ fn files_horizon<'a>(
     most
 }
 
-// A tick from which on the working memory in it changes no more.
+// A tick from which on the working memory in the memory of the colour changes no more.
 fn work_horizon<'a>(
     shape: Shape,
     job: &'a [u64; layout::JOB],

@@ -4,8 +4,8 @@ use console::Input;
 use console::Planner;
 use console::plan;
 use console::print_answer;
-use console::print_mark;
 use console::print_numbers;
+use console::print_plan_mark;
 use console::read_file;
 use libc::STDOUT_FILENO;
 
@@ -15,7 +15,7 @@ fn show_plan<'a>(name: &'a [u8], label: &'a [u8], planner: Planner, sheet: &'a [
     let a = plan(planner, sheet, &mut out);
     print_numbers(name, label, a);
     print_answer(a, &out);
-    print_mark(sheet, a, &out);
+    print_plan_mark(sheet, a, &out);
 }
 
 // Each plain planner, and behind it the memory-aware one.

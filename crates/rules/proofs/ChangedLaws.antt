@@ -76,7 +76,7 @@ not-read l [] n form o vs e = absurd o
 not-read l (f ∷ fs) n form (inl q) vs e = none-some (sym (n .0) ∙ rw q at e)
 not-read l (f ∷ fs) n form (inr o) vs e = not-read l fs (n .1) form o vs e
 
-sheet-formed : (form l vs : List ℕ) → OneOf sheetForms form → scan form l ≡ some vs → instanceLine (ended l) ≡ wrong malformed → ⊥
+pub sheet-formed : (form l vs : List ℕ) → OneOf sheetForms form → scan form l ≡ some vs → instanceLine (ended l) ≡ wrong malformed → ⊥
 unfolding instanceLineBy
 sheet-formed form l vs o e q =
     let x = or-formed asBoard (scan boardForm l) _ (λ vs. ranged-formed (inFour processorCounts memoryLimits processorCounts memoryLimits vs) _) q in
@@ -96,7 +96,7 @@ paper-formed I form l vs o e q =
 
 -- ---- what a mark now says of the line
 
-malformed-undue : malformed ≡ undue → ⊥
+pub malformed-undue : malformed ≡ undue → ⊥
 malformed-undue e = let z : _≡_ {A = ℕ} 2 4 = ap (faultNumber inSheet) e in omega arith
 
 large-undue : outOfRange ≡ undue → ⊥
@@ -112,7 +112,7 @@ module _ (n : ℕ) where
 
   module _ (sheet timetable : List ℕ) where
     -- 2 or 3, and 12
-    marked-sheet : (w : Fault) → (w ≡ undue → ⊥) → mark sheet timetable ≡ refusedBy (faultNumber inSheet w) (suc n)
+    pub marked-sheet : (w : Fault) → (w ≡ undue → ⊥) → mark sheet timetable ≡ refusedBy (faultNumber inSheet w) (suc n)
         → instanceLine (lineBehind sheet n) ≡ wrong w
     marked-sheet w u e =
         sheet-at u (sheetFaults sheet w (suc n) .0 (marked-by-sheet w (suc n) (markCall sheet timetable) (ap (λ v. v .number) e) (ap (λ v. v .place) e)))

@@ -1,4 +1,4 @@
--- Without W, Order 1 changed nothing for runs that take time: instantLaw, sheetTakesTime, formerHeldLaw, formerFreeLaw, formerValidLaw, formerPlaceLaw.
+-- For runs that take time Order 1 changed nothing: instantLaw, sheetTakesTime; on a job without W formerHeldLaw, formerFreeLaw, formerValidLaw, formerPlaceLaw.
 use Prim.Native.Nat.{ℕ, _+_, _≤_, _<_, max}
 use mathlib.Core.Bool.{true, cond}
 use mathlib.Core.Path.{_≡_, sym, ap, _∙_}

@@ -9,7 +9,7 @@ use lib.Dec.{eqb}
 use lib.ListN.{List·getD-eq-default}
 use borrow.Author.Tests.{eqb-true, eq-eqb, ne-eqb}
 use Rattle.rules.specs.Model.{Colour, blue, red, Instance, taskCount, workAt, allWork, isPlaced, Schedule, runAt}
-use Rattle.rules.specs.Residency.{isWorking, workHeld, held, workSettlesAt, workHorizon, horizon}
+use Rattle.rules.specs.Residency.{isWorkHeld, workHeld, held, workSettlesAt, workHorizon, horizon}
 use Rattle.rules.specs.Scheduling.{crossingSize, outputSize, memoryStart}
 use Rattle.rules.specs.Simulation.{runTurns}
 use Rattle.rules.specs.WorkingMemory.{FilesAloneLaw}
@@ -23,10 +23,10 @@ no-task I i l = ap (λ a. a .work) (List·getD-eq-default (I .tasks) _ l)
 
 module _ (I : Instance) (P : Schedule) (c : Colour) (t : ℕ) where
   abbrev working : ℕ → ℕ
-  working j = cond (isWorking I P c t j) (workAt I j) 0
+  working j = cond (isWorkHeld I P c t j) (workAt I j) 0
 
   working-under : (j : ℕ) → working j ≤ workAt I j
-  working-under j = cond-under (isWorking I P c t j) (workAt I j) (workAt I j) (λ _. omega arith)
+  working-under j = cond-under (isWorkHeld I P c t j) (workAt I j) (workAt I j) (λ _. omega arith)
 
   -- with the W of a task not placed, what is held is at most all
   pub work-suffices : (i : ℕ) → isPlaced (runAt P i) ≡ false → workHeld I P c t + workAt I i ≤ allWork I
@@ -47,11 +47,11 @@ module _ (I : Instance) (P : Schedule) (c : Colour) (t : ℕ) where
 
 -- another run for task i alone adds at most g, if its W is at most g where it is then held
 pub work-gain : (I : Instance) (P P′ : Schedule) (i : ℕ) (c : Colour) (t g : ℕ) → ((j : ℕ) → j ≢ i → runAt P′ j ≡ runAt P j)
-    → (isWorking I P′ c t i ≡ true → workAt I i ≤ g) → workHeld I P′ c t ≤ workHeld I P c t + g
+    → (isWorkHeld I P′ c t i ≡ true → workAt I i ≤ g) → workHeld I P′ c t ≤ workHeld I P c t + g
 unfolding workHeld
 work-gain I P P′ i c t g other h = omega (
   arith,
-  where-gain (taskCount I) (isWorking I P′ c t) (isWorking I P c t) (workAt I) (λ j. cond (eqb j i) g 0) (λ j l y n. elim (ℕ-discrete j i) [
+  where-gain (taskCount I) (isWorkHeld I P′ c t) (isWorkHeld I P c t) (workAt I) (λ j. cond (eqb j i) g 0) (λ j l y n. elim (ℕ-discrete j i) [
     | yes e ↦ rw (eq-eqb j i e, e) (h (rw e at y))
     | no e ↦ clash (rw (other j e) at y) n
   ]),
@@ -67,7 +67,7 @@ or-none false = refl
 pub filesAloneLaw : FilesAloneLaw
 unfolding held horizon workHeld workHorizon allWork memoryStart
 filesAloneLaw I free P c = record {
-  total = λ t. omega (arith, sum-zero (taskCount I) (λ j. cond (isWorking I P c t j) (workAt I j) 0) (λ j _. rw (work-idle I j (runAt P j) c (free j))));
+  total = λ t. omega (arith, sum-zero (taskCount I) (λ j. cond (isWorkHeld I P c t j) (workAt I j) 0) (λ j _. rw (work-idle I j (runAt P j) c (free j))));
   settled = omega (arith, max-under (taskCount I) (workSettlesAt I P c) 0 (λ j _. rw (work-idle I j (runAt P j) c (free j)) (omega arith)));
   ample = omega (arith, sum-zero (taskCount I) (workAt I) (λ j _. free j));
   starts = λ i. let e : crossingSize I P i c + outputSize I i + workAt I i ≡ crossingSize I P i c + outputSize I i = omega (arith, free i) in rw e;

@@ -1,42 +1,46 @@
--- Order 6: workHeldLaw, earliestLaw, writtenZero; marksBeforeWork, plansBeforeWork, simulationsBeforeWork, readsNoWork.
-use Prim.Native.Nat.{ℕ, zero, suc, _+_, _-_, max, pred}
-use mathlib.Core.Bool.{Bool, true, _&&_}
+-- Order 6, W in words: workHeldLaw, workCounts, earliestLaw, workLines, writtenZero.
+use Prim.Native.Nat.{ℕ, suc, _+_, _^_, _≤_, _<_, max}
+use mathlib.Core.Bool.{Bool, true, false, cond, _&&_}
 use mathlib.Core.Path.{_≡_, refl, sym, ap, _∙_}
+use mathlib.Core.Logic.{_≢_}
 use mathlib.Core.List.{List, [], _∷_}
 use mathlib.Core.Option.{Option, none, some}
 use native.Mathlib.Omega.{arith}
-use lib.Dec.{leb, ltb, eqb}
-use lib.ListN.{length, drop}
+use native.Mathlib.Decide.{ℕ-discrete}
+use lib.Dec.{leb, ltb}
+use lib.ListN.{length-set}
+use lib.Seq.{getD-set-same, getD-set-other}
 use borrow.Author.Tests.{ltb-true, lt-ltb, leb-true, le-leb}
-use Rattle.rules.specs.Limits.{maxText, maxDigits, taskNumbers, processorCounts, memoryLimits, runTimes, moveTimes, fileSizes, current, beforeWork}
-use Rattle.rules.specs.Model.{Colour, blue, red, sameColour, Task, Instance, taskCount, workAt, NoWork, fileAt, fileCount, isPlaced, Schedule, runAt, colourOf, moved}
-use Rattle.rules.specs.Residency.{workBy}
-use Rattle.rules.specs.Validity.{Claim}
+use Rattle.rules.specs.Limits.{maxDigits, taskNumbers, runTimes, workSizes, inRange}
+use Rattle.rules.specs.Model.{Colour, blue, red, sameColour, Instance, File, Run, timeOn, taskCount, taskAt, workAt, fileCount, fileAt, sizeAt, isPlaced}
+use Rattle.rules.specs.Model.{Schedule, runAt, startAt, colourOf, finishOf, finishAt, releaseOf, releaseAt, moveAt, makerRun, readerRun}
+use Rattle.rules.specs.Residency.{covers, holdBy, holdOf, workBy, workOf, isWorkHeld, filesHeld, workHeld, held}
 use Rattle.rules.specs.Scheduling.{latest, delayed, crossingSize, outputSize, crossingTime, processorStart, inputStart, freeFrom, memoryStart, earliestStart}
-use Rattle.rules.specs.Text.{Fault, Line, ended, unended, linesOf, scan, fill, right, ifInRange, due}
-use Rattle.rules.specs.InstanceText.{boardForm, taskForm, workForm, fileForm, InstanceLine, boardLine, taskLine, fileLine, asBoard, asTask, asFile}
-use Rattle.rules.specs.InstanceText.{instanceLineBy, instanceLine, fileAllowed, withTask, withFile, withBoard, withLine, InstanceRead, refused, accepted, readRestBy, readLinesBy, readInstanceBy}
-use Rattle.rules.specs.ScheduleText.{ScheduleLine, scheduleLineBy, runOf, moveOf, claimOf, readEndBy, readClaimBy, withMove, readMovesBy, withRun, readRunsBy, readScheduleBy}
-use Rattle.rules.specs.Calls.{markBy, planBy}
-use Rattle.rules.specs.Simulation.{simulateBy}
-use Rattle.rules.specs.FinerTicks.{lineBehind}
-use Rattle.rules.specs.WorkingMemory.{WorkHeldLaw, EarliestLaw, WrittenZero, HasWork, MarksBeforeWork, PlansBeforeWork, SimulationsBeforeWork, ReadsNoWork}
-use Rattle.rules.specs.WorkingMemory.{WithoutWork}
-use Rattle.rules.proofs.Tests.{split, by-order, clash, and-true}
+use Rattle.rules.specs.Text.{ended, wrong, right, outOfRange, fill, ifInRange}
+use Rattle.rules.specs.InstanceText.{workForm, InstanceLine, taskLine, instanceLine}
+use Rattle.rules.specs.WorkingMemory.{KeepsUntil, byFinish, ofRelay, WorkIsHeld, WorkHeldLaw, withWork, OneMoreHold, WorkCounts, EarliestLaw}
+use Rattle.rules.specs.WorkingMemory.{AllInRange, WorkLines, WrittenZero}
+use Rattle.rules.proofs.Tests.{split, by-order, clash, and-true, cond-zero}
+use Rattle.rules.proofs.CountLaws.{sum-cong, sum-changed}
 use Rattle.rules.proofs.GainLaws.{same-colour}
 use Rattle.rules.proofs.FormLaws.{Numerals, scan-fill, none-some}
-use Rattle.rules.proofs.ReadingLaws.{in-tested, by-reading, ranged-right, or-else, wrong-right, due-right, all-snoc}
-use Rattle.rules.proofs.WorkLaws.{no-task}
+use Rattle.rules.proofs.ReadingLaws.{in-tested, tested-4, ranged-right}
 use Rattle.rules.proofs.InstanceLineLaws.{no-task-work, no-board-work, as-work}
-use Rattle.rules.proofs.ResidencyLaws.{freeFromLaw}
-use Rattle.rules.proofs.KeptLaws.{line-behind, lines-behind}
-use Rattle.rules.proofs.ChangedLaws.{inThree, inFour}
+use Rattle.rules.proofs.ResidencyLaws.{held-is, freeFromLaw}
 
 -- ---- where W is held
 
 colour-is : (c : Colour) → sameColour c c ≡ true
 colour-is blue = refl
 colour-is red = refl
+
+-- before the release is before the finish, or at a relay's start
+keeps : (s f t : ℕ) → s ≤ f → s ≤ t → t < max f (suc s) → KeepsUntil s f t
+keeps s f t a b h = by-order t f (λ l. byFinish l) (λ l. ofRelay (omega arith) (omega arith))
+
+kept-until : (s f t : ℕ) → KeepsUntil s f t → t < max f (suc s)
+kept-until s f t (byFinish l) = omega arith
+kept-until s f t (ofRelay e q) = omega arith
 
 pub workHeldLaw : WorkHeldLaw
 unfolding workBy
@@ -46,19 +50,81 @@ workHeldLaw I P c t i = (
       let a = and-true (isPlaced (runAt P i) && sameColour (colourOf I (runAt P i)) c) _ e in
       let b = and-true (isPlaced (runAt P i)) _ (a .0) in
       let k = and-true (leb (runAt P i .start) t) _ (rw e at h) in
+      let begun = leb-true _ _ (k .0) in
       record {
         placed = b .0;
         has = ltb-true _ _ (a .1);
         memory = sym (same-colour (colourOf I (runAt P i)) c (b .1));
-        begun = leb-true _ _ (k .0);
-        kept = ltb-true _ _ (k .1);
+        begun = begun;
+        kept = keeps (startAt P i) (finishAt I P i) t (omega arith) begun (ltb-true _ _ (k .1));
       })
       (λ e. clash (rw e at h) refl)),
   (λ w.
       let s : sameColour (colourOf I (runAt P i)) c ≡ true = rw (w .memory) (colour-is c) in
       let e : isPlaced (runAt P i) && sameColour (colourOf I (runAt P i)) c && ltb 0 (workAt I i) ≡ true = rw (w .placed, s) (lt-ltb _ _ (w .has)) in
-      rw (e, le-leb _ _ (w .begun)) (lt-ltb _ _ (w .kept))),
+      rw (e, le-leb _ _ (w .begun)) (lt-ltb _ _ (kept-until (startAt P i) (finishAt I P i) t (w .kept)))),
 )
+
+-- ---- one more hold
+
+module _ (I : Instance) (i w : ℕ) (l : i < taskCount I) where
+  abbrev J : Instance
+  J = withWork I i w
+
+  other-task : (j : ℕ) → j ≢ i → taskAt J j ≡ taskAt I j
+  other-task j n = getD-set-other (I .tasks) i j _ _ n
+
+  this-task : taskAt J i ≡ record { onBlue = taskAt I i .onBlue; onRed = taskAt I i .onRed; work = w }
+  this-task = getD-set-same (I .tasks) i _ _ l
+
+  same-time : (c : Colour) (j : ℕ) → timeOn c (taskAt J j) ≡ timeOn c (taskAt I j)
+  same-time c j = elim (ℕ-discrete j i) [
+    | yes e ↦ rw (e, this-task) (by-colour c)
+    | no n ↦ rw (other-task j n)
+  ]
+    where
+      by-colour : (c : Colour) → timeOn c (record { onBlue = taskAt I i .onBlue; onRed = taskAt I i .onRed; work = w }) ≡ timeOn c (taskAt I i)
+      by-colour blue = refl
+      by-colour red = refl
+
+  same-release : (j : ℕ) (r : Run) → releaseOf J j r ≡ releaseOf I j r
+  same-release j r = let e = same-time (colourOf I r) j in omega arith
+
+  same-hold : (f : File) (m r : Run) (v : ℕ) (c : Colour) → holdBy J f m r v c ≡ holdBy I f m r v c
+  unfolding holdBy
+  same-hold f m r v c = rw (same-release (f .reader) r)
+
+  other-work : (j : ℕ) → j ≢ i → (r : Run) (c : Colour) → workBy J j r c ≡ workBy I j r c
+  unfolding workBy
+  other-work j n r c = rw (same-release j r, ap (λ a. a .work) (other-task j n))
+
+  module _ (P : Schedule) (c : Colour) (t : ℕ) where
+    same-files : filesHeld J P c t ≡ filesHeld I P c t
+    unfolding filesHeld
+    same-files = sum-cong (fileCount I) _ _ (λ k _. ap (λ h. cond (covers h t) (sizeAt I k) 0) (same-hold (fileAt I k) (makerRun I P k) (readerRun I P k) (moveAt P k) c))
+
+    more-work : workAt I i ≡ 0 → (d : ℕ) → cond (isWorkHeld J P c t i) w 0 ≡ d → workHeld J P c t ≡ workHeld I P c t + d
+    unfolding workHeld
+    more-work z d e =
+        rw (length-set (I .tasks) i (record { onBlue = taskAt I i .onBlue; onRed = taskAt I i .onRed; work = w }))
+        (sum-changed (taskCount I) (λ j. cond (isWorkHeld I P c t j) (workAt I j) 0) (λ j. cond (isWorkHeld J P c t j) (workAt J j) 0) i d l
+        (λ j n. rw (other-work j n (runAt P j) c, ap (λ a. a .work) (other-task j n)))
+        (let q : cond (isWorkHeld I P c t i) (workAt I i) 0 ≡ 0 = rw z (cond-zero (isWorkHeld I P c t i)) in
+        let u : cond (isWorkHeld J P c t i) (workAt J i) 0 ≡ d = rw (ap (λ a. a .work) this-task) e in
+        omega arith))
+
+    more-held : workAt I i ≡ 0 → (d : ℕ) → cond (isWorkHeld J P c t i) w 0 ≡ d → held J P c t ≡ held I P c t + d
+    more-held z d e = omega (arith, more-work z d e, same-files, held-is J P c t, held-is I P c t)
+
+pub workCounts : WorkCounts
+workCounts I i w l z P c t =
+    let law = workHeldLaw (withWork I i w) P c t i in
+    record {
+      more = λ h. more-held I i w l P c t z w (rw (law .1 h));
+      same = λ n. split (isWorkHeld (withWork I i w) P c t i)
+          (λ e. absurd (n (law .0 e)))
+          (λ e. omega (arith, more-held I i w l P c t z 0 (rw e)));
+    }
 
 -- ---- the starts
 
@@ -92,208 +158,45 @@ earliestLaw I Q i c s =
           (ap some (sym (f .greatest)))),
     )
 
--- ---- a written 0
+-- ---- the lines with W
+
+module _ (i b r w : ℕ) (hi : i < 10 ^ maxDigits) (hb : b < 10 ^ maxDigits) (hr : r < 10 ^ maxDigits) (hw : w < 10 ^ maxDigits) where
+  abbrev numbers : List ℕ
+  numbers = i ∷ b ∷ r ∷ w ∷ []
+
+  abbrev inRanges : Bool
+  inRanges = inRange taskNumbers i && inRange runTimes b && inRange runTimes r && inRange workSizes w
+
+  abbrev said : InstanceLine
+  said = taskLine i (record { onBlue = b; onRed = r; work = w })
+
+  short : Numerals maxDigits numbers
+  short = (hi, (hb, (hr, (hw, tt))))
+
+  by-ranges : instanceLine (ended (fill workForm numbers)) ≡ ifInRange inRanges said
+  by-ranges =
+      as-work (fill workForm numbers) numbers (no-board-work numbers) (no-task-work numbers (omega arith) short)
+      (scan-fill maxDigits (omega arith) workForm numbers refl refl short)
+
+  in-all : inRanges ≡ true → AllInRange i b r w
+  in-all e =
+      let (t, x, y, z) = tested-4 taskNumbers runTimes runTimes workSizes i b r w e in
+      record { task = t; onBlue = x; onRed = y; work = z }
+
+  all-in : AllInRange i b r w → inRanges ≡ true
+  all-in h = rw (in-tested _ _ (h .task), in-tested _ _ (h .onBlue), in-tested _ _ (h .onRed)) (in-tested _ _ (h .work))
+
+pub workLines : WorkLines
+workLines i b r w hi hb hr hw = record {
+  readable = (
+    (λ e. in-all i b r w hi hb hr hw (ranged-right (inRanges i b r w hi hb hr hw) (said i b r w hi hb hr hw) _ (sym (by-ranges i b r w hi hb hr hw) ∙ e) .0)),
+    (λ h. by-ranges i b r w hi hb hr hw ∙ rw (all-in i b r w hi hb hr hw h)),
+  );
+  otherwise = λ n.
+      split (inRanges i b r w hi hb hr hw)
+      (λ e. absurd (n (in-all i b r w hi hb hr hw e)))
+      (λ e. by-ranges i b r w hi hb hr hw ∙ rw e);
+}
 
 pub writtenZero : WrittenZero
-writtenZero i b r hi hb hr =
-    let vs = i ∷ b ∷ r ∷ 0 ∷ [] in
-    let m : Numerals maxDigits vs = omega (arith, hi .most, hb .most, hr .most) in
-    as-work (fill workForm vs) vs (no-board-work vs) (no-task-work vs (omega arith) m) (scan-fill maxDigits (omega arith) workForm vs refl refl m)
-    ∙ rw (in-tested _ _ hi, in-tested _ _ hb, in-tested _ _ hr)
-
--- ---- a sheet without W is read as it was
-
--- a line that is not of the form with W
-line-before : (l : Line) → (HasWork l → ⊥) → instanceLineBy beforeWork l ≡ instanceLine l
-unfolding instanceLineBy
-line-before (unended l) n = refl
-line-before (ended l) n = go (scan workForm l) refl
-  where
-    go : (o : Option (List ℕ)) → scan workForm l ≡ o → instanceLineBy beforeWork (ended l) ≡ instanceLine (ended l)
-    go none e = rw e
-    go (some vs) e = absurd (n (record { bytes = l; isEnded = refl; numbers = vs; hasForm = e }))
-
-module _ (bs : List ℕ) (free : (n : ℕ) → HasWork (lineBehind bs n) → ⊥) where
-  next-before : (at : ℕ) (l : Line) (ls : List Line) → drop at (linesOf bs) ≡ l ∷ ls → instanceLineBy beforeWork l ≡ instanceLine l
-  next-before at l ls e = let q = line-behind bs at l ls e in line-before l (λ h. free at (rw q at h))
-
-  rest-before : (ls : List Line) (I : Instance) (at : ℕ) → drop at (linesOf bs) ≡ ls → readRestBy beforeWork I (suc at) ls ≡ readRestBy current I (suc at) ls
-  unfolding readRestBy
-  rest-before [] I at e = refl
-  rest-before (l ∷ ls) I at e =
-      let q = ap (due (withLine I)) (next-before at l ls e) in
-      by-reading (due (withLine I) (instanceLineBy beforeWork l))
-      (λ w d. rw (d, sym q ∙ d, readRestBy))
-      (λ J d. rw (d, sym q ∙ d, readRestBy) (rest-before ls J (suc at) (lines-behind bs at l ls e)))
-
-  lines-before : (ls : List Line) → linesOf bs ≡ ls → readLinesBy beforeWork ls ≡ readLinesBy current ls
-  unfolding readLinesBy
-  lines-before [] e = refl
-  lines-before (l ∷ ls) e =
-      let q = ap (due withBoard) (next-before 0 l ls e) in
-      by-reading (due withBoard (instanceLineBy beforeWork l))
-      (λ w d. rw (d, sym q ∙ d, readLinesBy))
-      (λ J d. rw (d, sym q ∙ d, readLinesBy) (rest-before ls J 1 (lines-behind bs 0 l ls e)))
-
-  sheet-before : readInstanceBy beforeWork bs ≡ readInstanceBy current bs
-  unfolding readInstanceBy
-  sheet-before = split (leb (length bs) maxText)
-      (λ s. rw (s, readInstanceBy) (lines-before (linesOf bs) refl))
-      (λ s. rw (s, readInstanceBy))
-
--- ---- a timetable is read as it was
-
-module _ (I : Instance) where
-  paper-line-before : (l : Line) → scheduleLineBy beforeWork I l ≡ scheduleLineBy current I l
-  unfolding scheduleLineBy
-  paper-line-before (ended l) = refl
-  paper-line-before (unended l) = refl
-
-  end-before : (ls : List Line) (P : Schedule) (c : Claim) (k : ℕ) → readEndBy beforeWork I P c k ls ≡ readEndBy current I P c k ls
-  unfolding readEndBy
-  end-before [] P c k = refl
-  end-before (l ∷ ls) P c k = rw (paper-line-before l)
-
-  claim-before : (ls : List Line) (P : Schedule) (k : ℕ) → readClaimBy beforeWork I P k ls ≡ readClaimBy current I P k ls
-  unfolding readClaimBy
-  claim-before [] P k = refl
-  claim-before (l ∷ ls) P k =
-      let q = ap (due claimOf) (paper-line-before l) in
-      by-reading (due claimOf (scheduleLineBy beforeWork I l))
-      (λ w d. rw (d, sym q ∙ d, readClaimBy))
-      (λ c d. rw (d, sym q ∙ d, readClaimBy) (end-before ls P c (suc k)))
-
-  module _ (left : ℕ) (P : Schedule) (k : ℕ) (m : moved I P (fileCount I - suc left) ≡ true) where
-    abbrev move-due : ScheduleLine → Option ℕ
-    move-due = moveOf (suc (fileAt I (fileCount I - suc left) .maker)) (suc (fileAt I (fileCount I - suc left) .reader))
-
-    move-before : (ls : List Line)
-        → ((t : ℕ) (rest : List Line) → readMovesBy beforeWork I left (withMove P t) (suc k) rest ≡ readMovesBy current I left (withMove P t) (suc k) rest)
-        → readMovesBy beforeWork I (suc left) P k ls ≡ readMovesBy current I (suc left) P k ls
-    unfolding readMovesBy
-    move-before [] ih = rw (m, readMovesBy)
-    move-before (l ∷ ls) ih =
-        let q = ap (due move-due) (paper-line-before l) in
-        by-reading (due move-due (scheduleLineBy beforeWork I l))
-        (λ w d. rw (m, d, sym q ∙ d, readMovesBy))
-        (λ t d. rw (m, d, sym q ∙ d, readMovesBy) (ih t ls))
-
-  moves-before : (left : ℕ) (ls : List Line) (P : Schedule) (k : ℕ) → readMovesBy beforeWork I left P k ls ≡ readMovesBy current I left P k ls
-  unfolding readMovesBy
-  moves-before zero ls P k = claim-before ls P k
-  moves-before (suc left) ls P k = split (moved I P (fileCount I - suc left))
-      (λ m. move-before left P k m ls (λ t rest. moves-before left rest (withMove P t) (suc k)))
-      (λ m. rw (m, readMovesBy) (moves-before left ls (withMove P 0) k))
-
-  runs-before : (left : ℕ) (ls : List Line) (P : Schedule) (k : ℕ) → readRunsBy beforeWork I left P k ls ≡ readRunsBy current I left P k ls
-  unfolding readRunsBy
-  runs-before zero ls P k = moves-before (fileCount I) ls P k
-  runs-before (suc left) [] P k = refl
-  runs-before (suc left) (l ∷ ls) P k =
-      let q = ap (due (runOf (suc (taskCount I - suc left)))) (paper-line-before l) in
-      by-reading (due (runOf (suc (taskCount I - suc left))) (scheduleLineBy beforeWork I l))
-      (λ w d. rw (d, sym q ∙ d, readRunsBy))
-      (λ r d. rw (d, sym q ∙ d, readRunsBy) (runs-before left ls (withRun P r) (suc k)))
-
-  paper-before : (bs : List ℕ) → readScheduleBy beforeWork I bs ≡ readScheduleBy current I bs
-  unfolding readScheduleBy
-  paper-before bs = split (leb (length bs) maxText)
-      (λ s. rw (s, readScheduleBy) (runs-before (taskCount I) (linesOf bs) (record { runs = []; moves = [] }) 1))
-      (λ s. rw (s, readScheduleBy))
-
--- ---- the calls
-
-module _ (sheet timetable : List ℕ) (free : WithoutWork sheet) where
-  -- both texts are read as they were
-  data ReadBefore : Type 0 where
-    bothRefuse : (w : Fault) (k : ℕ) → readInstanceBy current sheet ≡ refused w k → readInstanceBy beforeWork sheet ≡ refused w k → ReadBefore
-    bothAccept : (I : Instance) → readInstanceBy current sheet ≡ accepted I → readInstanceBy beforeWork sheet ≡ accepted I
-        → readScheduleBy beforeWork I timetable ≡ readScheduleBy current I timetable → ReadBefore
-
-  read-before : (r : InstanceRead) → readInstanceBy current sheet ≡ r → ReadBefore
-  read-before (refused w k) e = bothRefuse w k e (sheet-before sheet free ∙ e)
-  read-before (accepted I) e = bothAccept I e (sheet-before sheet free ∙ e) (paper-before I timetable)
-
-pub marksBeforeWork : MarksBeforeWork
-unfolding markBy
-marksBeforeWork sheet timetable free = elim (read-before sheet timetable free (readInstanceBy current sheet) refl) [
-  | bothRefuse w k a b ↦ rw (a, b, markBy)
-  | bothAccept I a b q ↦ rw (a, b, q, markBy)
-]
-
-pub plansBeforeWork : PlansBeforeWork
-unfolding planBy
-plansBeforeWork R sheet buffer free = rw (sheet-before sheet free, planBy)
-
-pub simulationsBeforeWork : SimulationsBeforeWork
-unfolding simulateBy
-simulationsBeforeWork sheet timetable made steps free = elim (read-before sheet timetable free (readInstanceBy current sheet) refl) [
-  | bothRefuse w k a b ↦ rw (a, b, simulateBy)
-  | bothAccept I a b q ↦ rw (a, b, q, simulateBy)
-]
-
--- ---- what the rules before Order 6 read has no W
-
--- a line without W
-abbrev Idle : InstanceLine → Type 0
-Idle (boardLine b r) = Unit {0}
-Idle (taskLine i a) = a .work ≡ 0
-Idle (fileLine i j f c) = Unit {0}
-
-ranged-idle : (ok : Bool) (a x : InstanceLine) → Idle a → ifInRange ok a ≡ right x → Idle x
-ranged-idle ok a x h e = let (_, q) = ranged-right ok a x e in rw (← q) h
-
-line-idle : (l : Line) (x : InstanceLine) → instanceLineBy beforeWork l ≡ right x → Idle x
-unfolding instanceLineBy
-line-idle (unended l) x e = wrong-right e
-line-idle (ended l) x e =
-    or-else boardForm l asBoard _ x (λ vs f. ranged-idle (inFour processorCounts memoryLimits processorCounts memoryLimits vs) _ x tt)
-    (or-else {R = Idle x} taskForm l asTask _ x (λ vs f. ranged-idle (inThree taskNumbers runTimes runTimes vs) _ x refl)
-    (or-else {R = Idle x} fileForm l asFile _ x (λ vs f. ranged-idle (inFour taskNumbers taskNumbers fileSizes moveTimes vs) _ x tt) (λ q. wrong-right q))) e
-
-task-idle : (I : Instance) (a : Task) → NoWork I → a .work ≡ 0 → NoWork (withTask I a)
-task-idle I a n e i = by-order i (taskCount (withTask I a))
-    (λ l. all-snoc (λ j x. x .work ≡ 0) (I .tasks) a _ (λ j _. n j) e i l)
-    (λ l. no-task (withTask I a) i l)
-
-with-idle : (I J : Instance) → NoWork I → (x : InstanceLine) → Idle x → withLine I x ≡ some J → NoWork J
-with-idle I J n (boardLine b r) e q = none-some q
-with-idle I J n (taskLine i a) e q = split (eqb (fileCount I) 0 && eqb i (suc (taskCount I)))
-    (λ t. let z : withTask I a ≡ J = cc (rw t at q) in rw (← z) (task-idle I a n e))
-    (λ t. none-some (rw t at q))
-with-idle I J n (fileLine i j f c) e q = split (fileAllowed I i j)
-    (λ t. let z : withFile I (record { maker = pred i; reader = pred j; size = f; moveTime = c }) ≡ J = cc (rw t at q) in rw (← z) n)
-    (λ t. none-some (rw t at q))
-
-rest-idle : (ls : List Line) (I : Instance) (k : ℕ) → NoWork I → (J : Instance) → readRestBy beforeWork I k ls ≡ accepted J → NoWork J
-unfolding readRestBy
-rest-idle [] I k n J e = split (eqb (taskCount I) 0)
-    (λ t. let z : _≡_ {A = ℕ} 0 1 = cc (rw t at e) in absurd (omega arith))
-    (λ t. let z : I ≡ J = cc (rw t at e) in rw (← z) n)
-rest-idle (l ∷ ls) I k n J e = by-reading (due (withLine I) (instanceLineBy beforeWork l))
-    (λ w d. let z : _≡_ {A = ℕ} 0 1 = cc (rw (d, readRestBy) at e) in absurd (omega arith))
-    (λ K d.
-    let (x, q, t) = due-right (withLine I) K (instanceLineBy beforeWork l) d in
-    rest-idle ls K (suc k) (with-idle I K n x (line-idle l x q) t) J (rw (d, readRestBy) at e))
-
-board-idle : (x : InstanceLine) (I : Instance) → withBoard x ≡ some I → NoWork I
-board-idle (boardLine b r) I e =
-    let z : record { blueSide = b; redSide = r; tasks = []; files = [] } ≡ I = cc e in
-    rw (← z) (λ i. no-task (record { blueSide = b; redSide = r; tasks = []; files = [] }) i (omega arith))
-board-idle (taskLine i a) I e = none-some e
-board-idle (fileLine i j f c) I e = none-some e
-
-lines-idle : (ls : List Line) (J : Instance) → readLinesBy beforeWork ls ≡ accepted J → NoWork J
-unfolding readLinesBy
-lines-idle [] J e = let z : _≡_ {A = ℕ} 0 1 = cc in absurd (omega arith)
-lines-idle (l ∷ ls) J e = by-reading (due withBoard (instanceLineBy beforeWork l))
-    (λ w d. let z : _≡_ {A = ℕ} 0 1 = cc (rw (d, readLinesBy) at e) in absurd (omega arith))
-    (λ K d.
-    let (x, q, t) = due-right withBoard K (instanceLineBy beforeWork l) d in
-    rest-idle ls K 2 (board-idle x K t) J (rw (d, readLinesBy) at e))
-
-pub readsNoWork : ReadsNoWork
-unfolding readInstanceBy
-readsNoWork sheet I e = split (leb (length sheet) maxText)
-    (λ s. lines-idle (linesOf sheet) I (rw (s, readInstanceBy) at e))
-    (λ s. let z : _≡_ {A = ℕ} 0 1 = cc (rw (s, readInstanceBy) at e) in absurd (omega arith))
+writtenZero i b r hi hb hr = workLines i b r 0 hi hb hr (omega arith) .otherwise (λ h. omega (arith, h .work .least))

@@ -1,4 +1,4 @@
--- The two rules that Order 1 changed, as document 01 has them by itself; and that for runs that take time they mean what they did.
+-- The two rules that Order 1 changed, as document 01 has them by itself, so without W; and that for runs that take time they mean what they did.
 use Prim.Native.Nat.{ℕ, suc, _+_, _≤_, _<_}
 use mathlib.Core.Bool.{true, cond}
 use mathlib.Core.Path.{_≡_}
@@ -72,7 +72,8 @@ pub record FormerPlaces (I : Instance) (P : Schedule) (claim : Claim) : Type 0 w
   pub at17 : (n : ℕ) → (judge I P claim ≡ refusedBy 17 n) ↔ (FormerApart I P × AllOnTime I P × First (FormerOver I P) n)
   pub at18 : (judge I P claim ≡ refusedBy 18 0) ↔ (FormerApart I P × AllOnTime I P × FormerWithin I P × (FormerValid I P claim → ⊥))
 
--- ---- that nothing changed for runs that take time. Alone each of these is met by any rule for runs of time 0; RelayExact says what holds of them
+-- ---- that nothing changed for runs that take time, on a job without W. Alone each of these is met by any rule for runs of time 0, and for W; RelayExact and
+-- WorkingMemory say what holds of them
 
 -- two runs that take time share an instant exactly if there is a tick at which both run.
 -- Not: a run refused that starts at another's finish

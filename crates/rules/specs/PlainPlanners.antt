@@ -77,13 +77,13 @@ PlanMarked = (R : Planner) (sheet buffer : List ℕ) → plan R sheet buffer .nu
 -- ---- ample memory
 
 -- where memory is ample a planner's answer is its plain parent's: number, place, trials and every byte.
--- Not: a start 3 or 4 that delays a task while all files fit; the parent of MemMinMin taken for HEFT. Alone it is met by planners that refuse everything;
+-- Not: a start 3 or 4 that delays a task while all files and all W fit; the parent of MemMinMin taken for HEFT. Alone it is met by planners that refuse everything;
 -- PlannerExact rules that out
 abbrev pub PlainParent : Type 0
 PlainParent =
     (R : Planner) (sheet buffer : List ℕ) (I : Instance) → readInstance sheet ≡ accepted I → Ample I → plan R sheet buffer ≡ plan (parentOf R) sheet buffer
 
--- and what a planner wrote there, a plain one too, is accepted when read back; it follows from PlainParent and ReadBack. Not: 17 while all files fit.
+-- and what a planner wrote there, a plain one too, is accepted when read back; it follows from PlainParent and ReadBack. Not: 17 while all files and all W fit.
 -- Alone it is met by a planner that never succeeds; AmpleMemory rules that out
 abbrev pub AmpleReadBack : Type 0
 AmpleReadBack =

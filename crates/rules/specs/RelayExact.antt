@@ -12,7 +12,7 @@ use Rattle.rules.specs.Promises.{WellFormed}
 -- ---- inputs
 
 -- the release of a run of time 0 at s is s + 1, that of any other run its finish.
--- Not: inputs that vanish as outputs appear; inputs kept one tick longer by each run. It fixes the release; InputsLaw says what it is for
+-- Not: inputs that vanish as outputs appear; inputs kept one tick longer by each run. It fixes the release; InputsLaw and WorkHeldLaw say what it is for
 abbrev pub ReleaseLaw : Type 0
 ReleaseLaw =
     (I : Instance) (i : ℕ) (r : Run) →

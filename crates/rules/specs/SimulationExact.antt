@@ -7,7 +7,7 @@ use mathlib.Core.List.{List}
 use lib.Dec.{eqb}
 use Rattle.rules.specs.Limits.{maxSteps}
 use Rattle.rules.specs.Model.{Colour, Instance, taskCount, fileCount, Schedule, startAt, finishAt, moveAt, moved, moveEnd}
-use Rattle.rules.specs.Residency.{isHeld, isWorking}
+use Rattle.rules.specs.Residency.{isHeld, isWorkHeld}
 use Rattle.rules.specs.Validity.{refusedBy as refusal}
 use Rattle.rules.specs.Calls.{mark}
 use Rattle.rules.specs.Simulation.{isTurn, refusedBy, stepsLeft, stopped, ended, numberOf, placeOf, leftOf, spanOf, Simulation, refusedText, simulate}
@@ -34,8 +34,8 @@ pub data Turn (I : Instance) (P : Schedule) (t : ℕ) : Type 0 where
   holdStarts : (c : Colour) (k : ℕ) → k < fileCount I → Begins (λ u. isHeld I P c u k) t → Turn I P t
   holdEnds : (c : Colour) (k : ℕ) → k < fileCount I → Ceases (λ u. isHeld I P c u k) t → Turn I P t
   -- Order 6
-  workStarts : (c : Colour) (i : ℕ) → i < taskCount I → Begins (λ u. isWorking I P c u i) t → Turn I P t
-  workEnds : (c : Colour) (i : ℕ) → i < taskCount I → Ceases (λ u. isWorking I P c u i) t → Turn I P t
+  workStarts : (c : Colour) (i : ℕ) → i < taskCount I → Begins (λ u. isWorkHeld I P c u i) t → Turn I P t
+  workEnds : (c : Colour) (i : ℕ) → i < taskCount I → Ceases (λ u. isWorkHeld I P c u i) t → Turn I P t
 
 -- the ticks of the steps are exactly these.
 -- Not: every tick; the ends of holds left out; a tick for a hold that never was. It fixes the ticks

@@ -11,7 +11,7 @@ use lib.Dec.{leb, eqb}
 use Rattle.rules.specs.Count.{countWhere}
 use Rattle.rules.specs.Limits.{maxTasks, maxFiles, allProcessors, maxSteps}
 use Rattle.rules.specs.Model.{Colour, blue, red, Instance, taskCount, fileCount, Schedule, runAt, startAt, moveAt, moved, madeAt}
-use Rattle.rules.specs.Residency.{isHeld, isWorking}
+use Rattle.rules.specs.Residency.{isHeld, isWorkHeld}
 use Rattle.rules.specs.Validity.{Claim, ShareInstant, Occupies, OverLimit, makespan, Verdict}
 use Rattle.rules.specs.InstanceText.{accepted, readInstance}
 use Rattle.rules.specs.ScheduleText.{read, readSchedule}
@@ -61,7 +61,7 @@ StillLaw =
     (I : Instance) (P : Schedule) (t : ℕ) → isTurn I P (suc t) ≡ false →
     ((p i : ℕ) → i < taskCount I → occupies I P p (suc t) i ≡ occupies I P p t i)
     × ((c : Colour) (k : ℕ) → k < fileCount I → isHeld I P c (suc t) k ≡ isHeld I P c t k)
-    × ((c : Colour) (i : ℕ) → i < taskCount I → isWorking I P c (suc t) i ≡ isWorking I P c t i)
+    × ((c : Colour) (i : ℕ) → i < taskCount I → isWorkHeld I P c (suc t) i ≡ isWorkHeld I P c t i)
 
 -- ---- where it stops
 

@@ -56,8 +56,28 @@ fn relay() {
     );
 }
 
+// Two relays with W of 3, for which a memory of 5 blocks has room one after the other.
+fn relays() {
+    let sheet = b"(board (blue 2 5) (red 1 0))\n(task 1 0 9 3)\n(task 2 0 9 3)\n";
+    show_marked(
+        b"two relays with W of 3, at 0 and at 1: three steps, to the end",
+        sheet,
+        b"(run 1 1 0)\n(run 2 1 1)\n(claim 1 3 0)\n",
+        0,
+        3,
+    );
+    show_marked(
+        b"17: both at 0",
+        sheet,
+        b"(run 1 1 0)\n(run 2 1 0)\n(claim 0 6 0)\n",
+        0,
+        3,
+    );
+}
+
 pub fn examples() {
     course();
     over();
     relay();
+    relays();
 }

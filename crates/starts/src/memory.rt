@@ -108,7 +108,7 @@ fn late_files<'a>(
     most
 }
 
-// And among those of working memory.
+// The latest of these ends among the holds of working memory.
 fn late_work<'a>(
     shape: Shape,
     job: &'a [u64; layout::JOB],

@@ -57,7 +57,8 @@ fn latest(running: Free, moving: Free, delay: u64) -> Free
     Free::From(greater(s, t + delay))
 }
 
-// Starts 3 and 4 of a task with this demand and this working memory, which start 3 alone asks for: the greater of the two, if the planner looks at memory; else 0. Nothing else asks for them.
+// Starts 3 and 4 of a task with this demand and this working memory, which start 3 alone asks for: the greater of the two, if the planner
+// looks at memory; else 0. Nothing else asks for them.
 fn memory_start<'a>(
     memory: Memory,
     shape: Shape,

@@ -1,4 +1,4 @@
--- One turn of each loop over the files or the tasks, and what it comes to after all of them; and what the accessors read.
+-- One turn of each loop over the files, the tasks or the holds, and what it comes to after all of them; and what the accessors read.
 use Prim.Native.Nat.{ℕ, _+_, _≤_, _<_, min}
 use mathlib.Core.Bool.{Bool, true, false, cond, _&&_}
 use mathlib.Core.Path.{_≡_, refl, sym, ap, _∙_}
@@ -19,7 +19,7 @@ use Rattle.model.specs.declared.residency.Hold.{Hold}
 use Rattle.model.specs.Layout.{Job, Entries, Bounds, instanceFrom, scheduleFrom}
 use Rattle.model.proofs.LayoutLaws.{file-count, task-count, reader-at, run-at, limit-of}
 use Rattle.model.specs.Holds.{asHold}
-use Rattle.claims.specs.Starts.{startOf, begins, holdAt, startsIn, startIn}
+use Rattle.claims.specs.Starts.{startOf, begins, nthHold, startsIn, startIn}
 use Rattle.runs.specs.declared.Run.{Run}
 use Rattle.runs.specs.First.{FirstOverlap}
 use Rattle.runs.specs.Scan.{noRun}
@@ -76,7 +76,7 @@ module _ {b : Shape} {J : Job} {L : Entries} (f : Bounds b J L) where
   -- ---- 17
 
   module _ (c : Colour) where
-    pub over-turn : (last n : ℕ) (x : Hold) {r : ℕ} → asHold x ≡ holdAt I P c n
+    pub over-turn : (last n : ℕ) (x : Hold) {r : ℕ} → asHold x ≡ nthHold I P c n
         → r ≡ cond (begins (asHold x)) (cond (over I P (startOf (asHold x))) (startOf (asHold x)) last) last
         → leastWhere (n + 1) last (overAtStart I P c) (startIn I P c) ≡ min (leastWhere n last (overAtStart I P c) (startIn I P c)) r
     over-turn last n x {r} g e =

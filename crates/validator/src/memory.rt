@@ -11,7 +11,7 @@ ghost use Rattle.model.specs.Layout.{instanceOf, scheduleOf, InBounds};
 ghost use Rattle.model.specs.Holds.{asHold};
 ghost use Rattle.claims.specs.Starts.{startOf, begins};
 ghost use Rattle.validator.specs.OverLimit.{firstOverIn};
-use claims::hold_at;
+use claims::nth_hold;
 use model::choice::greater;
 use model::choice::lesser;
 use model::choice::select;
@@ -39,7 +39,7 @@ pub fn over_at<'a>(
 }
 
 // The start of the hold, if it starts with a memory over its limit; else `last`.
-fn start_over<'a>(
+fn start_if_over<'a>(
     shape: Shape,
     job: &'a [u64; layout::JOB],
     schedule: &'a [u64; layout::SCHEDULE],
@@ -73,8 +73,8 @@ fn first_over_in<'a>(
     let mut first: u64 = last;
     let mut i: usize = 0;
     while i < holds {
-        let h = hold_at(shape, job, schedule, i, colour);
-        first = lesser(first, start_over(shape, job, schedule, h, last));
+        let h = nth_hold(shape, job, schedule, i, colour);
+        first = lesser(first, start_if_over(shape, job, schedule, h, last));
         i += 1;
     }
     first

@@ -68,13 +68,13 @@ fn relays() {
         b"(run 1 1 2)\n(run 2 1 3)\n(claim 3 5 0)\n",
     );
     show(
-        b"17: a relay on blue is none on red, and W is over the limit there",
-        sheet,
-        b"(run 1 1 2)\n(run 2 2 3)\n(claim 12 5 5)\n",
+        b"17: a relay on blue is none on red, where its W is held for 9 ticks",
+        b"(board (blue 1 5) (red 2 5))\n(task 1 0 9 5)\n(task 2 0 9 5)\n",
+        b"(run 1 2 2)\n(run 2 3 3)\n(claim 12 0 10)\n",
     );
 }
 
-// W of task 2 beside the file that it reads and the one that it makes: 2 and 4 and 3.
+// W of task 2, 4 blocks, beside the file that it reads, 2, and the one that it makes, 3.
 fn beside_files() {
     let tasks = b"(run 1 1 0)\n(run 2 1 1)\n(run 3 1 3)\n(claim 4 9 0)\n";
     show(

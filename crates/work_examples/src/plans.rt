@@ -2,8 +2,8 @@
 use console::Planner;
 use console::plan;
 use console::print_answer;
-use console::print_mark;
 use console::print_numbers;
+use console::print_plan_mark;
 
 // One planner on a sheet: its answer, and how its timetable is marked.
 fn show_planner<'a>(what: &'a [u8], label: &'a [u8], planner: Planner, sheet: &'a [u8]) {
@@ -11,7 +11,7 @@ fn show_planner<'a>(what: &'a [u8], label: &'a [u8], planner: Planner, sheet: &'
     let a = plan(planner, sheet, &mut out);
     print_numbers(what, label, a);
     print_answer(a, &out);
-    print_mark(sheet, a, &out);
+    print_plan_mark(sheet, a, &out);
 }
 
 // All four planners on a sheet.
@@ -62,7 +62,7 @@ fn waiting() {
     );
     show(
         b"relays of W 3: the second waits one tick",
-        b"(board (blue 1 5) (red 1 0))\n(task 1 0 9 3)\n(task 2 0 9 3)\n",
+        b"(board (blue 2 5) (red 1 0))\n(task 1 0 9 3)\n(task 2 0 9 3)\n",
     );
 }
 

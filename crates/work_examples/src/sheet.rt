@@ -104,6 +104,6 @@ fn show(sheet: &[u8]) {
 
 pub fn examples() {
     show(
-        b"(board (blue 2 40) (red 1 999999999))\n(task 1 4 2 1)\n(task 2 0 5)\n(task 3 1000000000 0 1000000)\n(task 4 7 7)\n(file 1 2 2 1)\n(file 1 3 0 2)\n(file 2 4 1000000 1000000000)\n",
+        b"(board (blue 2 40) (red 1 999999999))\n(task 1 4 2 1)\n(task 2 0 5)\n(task 3 1000000000 0 1000000)\n(file 1 2 2 1)\n(file 2 3 0 1000000000)\n",
     );
 }

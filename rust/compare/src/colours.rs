@@ -160,7 +160,7 @@ pub struct Counts {
     planned: ByCase,
     by_ticks: BTreeMap<u64, u64>,
     /// of these with a W
-    with_work: u64,
+    with_work: BTreeMap<u64, u64>,
 }
 
 fn count(counts: &mut ByCase, maker: Colour, reader: Colour) {
@@ -218,7 +218,9 @@ impl Counts {
             ));
         }
         *self.by_ticks.entry(number).or_default() += 1;
-        self.with_work += u64::from(!contents.works.is_empty());
+        if !contents.works.is_empty() {
+            *self.with_work.entry(number).or_default() += 1;
+        }
         Ok(())
     }
 
@@ -265,7 +267,7 @@ impl Counts {
         let [accepted, over, untrue] = CHECKED.map(|n| self.checked(n));
         println!(
             "timetables with files or W gone through tick by tick: {accepted} accepted, refused by 17: {over}, 18: {untrue}; with W: {}",
-            self.with_work
+            self.with_work.values().sum::<u64>()
         );
     }
 
@@ -282,8 +284,10 @@ impl Counts {
                 "no timetable with files or W and the answer {number} was gone through tick by tick"
             ));
         }
-        if self.with_work == 0 {
-            all.push("no timetable with W was gone through tick by tick".to_string());
+        for number in CHECKED.iter().filter(|n| !self.with_work.contains_key(n)) {
+            all.push(format!(
+                "no timetable with W and the answer {number} was gone through tick by tick"
+            ));
         }
         all
     }

@@ -143,7 +143,7 @@ impl Tally {
     }
 }
 
-/// The course example with W on two tasks, for its numbers.
+/// The course example with W on two tasks and limits of 8, for its numbers.
 const WITH_WORK: &[u8] = b"(board (blue 1 8) (red 1 8))\n(task 1 4 2)\n(task 2 3 5 1)\n(task 3 2 6 2)\n(file 1 2 2 1)\n(file 1 3 3 2)\n";
 const COURSE: &[u8] = b"(board (blue 1 6) (red 1 6))\n(task 1 4 2)\n(task 2 3 5)\n(task 3 2 6)\n(file 1 2 2 1)\n(file 1 3 3 2)\n";
 const PAPER: &[u8] =

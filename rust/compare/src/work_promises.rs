@@ -225,7 +225,7 @@ impl Before {
         Ok(())
     }
 
-    /// An accepted sheet is written back as it was.
+    /// A sheet that the reference accepts, it writes back as it was; that the library accepts the same sheets, the marks show.
     fn written(&mut self, text: &[u8]) -> Result<(), String> {
         let Ok(sheet) = read_sheet(text) else {
             return Ok(());

@@ -143,7 +143,7 @@ pub fn fault_line(sheet: &[u8], paper: &[u8]) -> Vec<u8> {
 ///
 /// A plain planner is never [stuck](Refusal::Stuck), and its timetable may be over a limit: [`mark`] accepts it on its sheet, or answers
 /// [`Refusal::OverLimit`] and no other refusal. Its claim names the span and the peaks that the timetable has. When each limit is at least
-/// the sum of all file sizes, a memory-aware planner answers and writes what its plain parent does.
+/// the sum of all file sizes and all working memory (W), a memory-aware planner answers and writes what its plain parent does.
 #[derive(Clone, Copy, Debug, PartialEq, Eq)]
 pub enum Planner {
     MemHeft,

@@ -31,7 +31,8 @@ pub enum Progress {
     Ended { span: u64 },
 }
 
-/// What the simulator answers: how far it came, and the state after the steps made.
+/// What the simulator answers: how far it came, and the state after the steps made. Working memory counts for 17, and its holds for the
+/// steps; the state does not show it.
 #[derive(Clone, Debug, PartialEq, Eq)]
 pub struct Simulation {
     pub progress: Progress,

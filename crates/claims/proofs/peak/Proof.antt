@@ -27,8 +27,8 @@ add-holds c = search needs
 loop-holds : tie.Need-loop-holds Inv-loop μ-loop
 loop-holds c = (omega arith, sym (max-none _), omega arith)
 
-hold-at-requires : tie.Need-hold-at-requires Inv-loop μ-loop
-hold-at-requires c κs = search needs
+nth-hold-requires : tie.Need-nth-hold-requires Inv-loop μ-loop
+nth-hold-requires c κs = search needs
 
 held-at-start-requires : tie.Need-held-at-start-requires Inv-loop μ-loop
 held-at-start-requires c κs = search needs
@@ -48,7 +48,7 @@ loop-again c =
     let s = l .before .before in
     omega (
       arith,
-      peak-turn (s .pre .0) (asColour (s .args .colour)) (l .loop .i) (c .before .before .hold-at .result) (c .before .before .hold-at .ensures)
+      peak-turn (s .pre .0) (asColour (s .args .colour)) (l .loop .i) (c .before .before .nth-hold .result) (c .before .before .nth-hold .ensures)
           (c .before .held-at-start .ensures .0),
     )
 
@@ -64,7 +64,7 @@ peak-spec =
     μ-loop
     add-holds
     loop-holds
-    hold-at-requires
+    nth-hold-requires
     held-at-start-requires
     greater-requires
     add-i

@@ -28,11 +28,11 @@ add-holds c = search needs
 loop-holds : tie.Need-loop-holds Inv-loop μ-loop
 loop-holds c = (omega arith, sym (least-none _ _ _))
 
-hold-at-requires : tie.Need-hold-at-requires Inv-loop μ-loop
-hold-at-requires c κs = search needs
+nth-hold-requires : tie.Need-nth-hold-requires Inv-loop μ-loop
+nth-hold-requires c κs = search needs
 
-start-over-requires : tie.Need-start-over-requires Inv-loop μ-loop
-start-over-requires c κs = search needs
+start-if-over-requires : tie.Need-start-if-over-requires Inv-loop μ-loop
+start-if-over-requires c κs = search needs
 
 lesser-requires : tie.Need-lesser-requires Inv-loop μ-loop
 lesser-requires c κs = search needs
@@ -51,7 +51,7 @@ loop-again c =
     let s = l .before .before in
     omega (
       arith,
-      over-turn (s .pre) (asColour (s .args .colour)) (s .args .last) (l .loop .i) (h .hold-at .result) (h .hold-at .ensures) (o .start-over .ensures),
+      over-turn (s .pre) (asColour (s .args .colour)) (s .args .last) (l .loop .i) (h .nth-hold .result) (h .nth-hold .ensures) (o .start-if-over .ensures),
     )
 
 returns : tie.Need-returns Inv-loop μ-loop
@@ -67,8 +67,8 @@ first-over-in-spec =
     μ-loop
     add-holds
     loop-holds
-    hold-at-requires
-    start-over-requires
+    nth-hold-requires
+    start-if-over-requires
     lesser-requires
     add-i
     loop-less

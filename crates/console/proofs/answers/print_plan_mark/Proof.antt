@@ -1,9 +1,9 @@
--- `print_mark` marks only bytes of the buffer.
+-- `print_plan_mark` marks only bytes of the buffer.
 use mathlib.Core.Path.{sym}
 use lib.Seq.{length-take-le}
 use borrow.Author.Needs.{needs}
-use Rattle.console.proofs.answers.print_mark.Statement.{statement}
-use Rattle.console.proofs.answers.print_mark.Tie as tie
+use Rattle.console.proofs.answers.print_plan_mark.Statement.{statement}
+use Rattle.console.proofs.answers.print_plan_mark.Tie as tie
 
 returns : tie.Need-returns
 returns c = search needs
@@ -29,8 +29,8 @@ returns-2 c = search needs
 returns-3 : tie.Need-returns-3
 returns-3 c = search needs
 
-pub print-mark-spec : {M : Type 1} → statement M
-print-mark-spec =
+pub print-plan-mark-spec : {M : Type 1} → statement M
+print-plan-mark-spec =
     tie.close
     (tie.spec
     returns

@@ -1,12 +1,12 @@
--- `start_over` meets its contract, by the case of the hold.
+-- `start_if_over` meets its contract, by the case of the hold.
 use mathlib.Core.Bool.{cond}
 use mathlib.Core.Path.{ap, _∙_}
 use Rattle.rules.specs.Validity.{over}
 use Rattle.model.specs.Layout.{instanceOf, scheduleOf}
 use Rattle.claims.proofs.ClaimLoops.{at-never, at-during, at-since}
 use borrow.Author.Needs.{needs}
-use Rattle.validator.proofs.memory.start_over.Statement.{statement}
-use Rattle.validator.proofs.memory.start_over.Tie as tie
+use Rattle.validator.proofs.memory.start_if_over.Statement.{statement}
+use Rattle.validator.proofs.memory.start_if_over.Tie as tie
 
 enum-told : tie.Need-enum-told
 enum-told c = search needs
@@ -46,8 +46,8 @@ returns-3 c =
     at-since (a .h) (λ t. cond (over (instanceOf (a .shape) (a .job .now)) (scheduleOf (a .shape) (a .schedule .now)) t) t (a .last)) (a .last)
     (c .before .before .before .h2 .given .1) (c .select2 .ensures .0 ∙ ap (λ y. cond y (c .before .before .before .h2 .given .0 .0) (a .last)) (c .before .over-at2 .ensures))
 
-pub start-over-spec : {M : Type 1} → statement M
-start-over-spec =
+pub start-if-over-spec : {M : Type 1} → statement M
+start-if-over-spec =
     tie.close
     (tie.spec
     enum-told
