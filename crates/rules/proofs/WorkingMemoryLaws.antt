@@ -1,10 +1,10 @@
 -- Order 6, W in words: workHeldLaw, workCounts, earliestLaw, workLines, writtenZero.
 use Prim.Native.Nat.{ℕ, suc, _+_, _^_, _≤_, _<_, max}
-use mathlib.Core.Bool.{Bool, true, false, cond, _&&_}
+use mathlib.Core.Bool.{Bool, true, cond, _&&_}
 use mathlib.Core.Path.{_≡_, refl, sym, ap, _∙_}
 use mathlib.Core.Logic.{_≢_}
 use mathlib.Core.List.{List, [], _∷_}
-use mathlib.Core.Option.{Option, none, some}
+use mathlib.Core.Option.{some}
 use native.Mathlib.Omega.{arith}
 use native.Mathlib.Decide.{ℕ-discrete}
 use lib.Dec.{leb, ltb}
@@ -13,20 +13,21 @@ use lib.Seq.{getD-set-same, getD-set-other}
 use borrow.Author.Tests.{ltb-true, lt-ltb, leb-true, le-leb}
 use Rattle.rules.specs.Limits.{maxDigits, taskNumbers, runTimes, workSizes, inRange}
 use Rattle.rules.specs.Model.{Colour, blue, red, sameColour, Instance, File, Run, timeOn, taskCount, taskAt, workAt, fileCount, fileAt, sizeAt, isPlaced}
-use Rattle.rules.specs.Model.{Schedule, runAt, startAt, colourOf, finishOf, finishAt, releaseOf, releaseAt, moveAt, makerRun, readerRun}
-use Rattle.rules.specs.Residency.{covers, holdBy, holdOf, workBy, workOf, isWorkHeld, filesHeld, workHeld, held}
-use Rattle.rules.specs.Scheduling.{latest, delayed, crossingSize, outputSize, crossingTime, processorStart, inputStart, freeFrom, memoryStart, earliestStart}
-use Rattle.rules.specs.Text.{ended, wrong, right, outOfRange, fill, ifInRange}
+use Rattle.rules.specs.Model.{Schedule, runAt, startAt, colourOf, finishAt, releaseOf, moveAt, makerRun, readerRun}
+use Rattle.rules.specs.Residency.{covers, holdBy, workBy, isWorkHeld, filesHeld, workHeld, held}
+use Rattle.rules.specs.Scheduling.{aware, crossingSize, outputSize, memoryStart, earliestStart}
+use Rattle.rules.specs.Text.{ended, fill, ifInRange}
 use Rattle.rules.specs.InstanceText.{workForm, InstanceLine, taskLine, instanceLine}
-use Rattle.rules.specs.WorkingMemory.{KeepsUntil, byFinish, ofRelay, WorkIsHeld, WorkHeldLaw, withWork, OneMoreHold, WorkCounts, EarliestLaw}
+use Rattle.rules.specs.WorkingMemory.{KeepsUntil, byFinish, ofRelay, WorkHeldLaw, withWork, WorkCounts, EarliestLaw}
 use Rattle.rules.specs.WorkingMemory.{AllInRange, WorkLines, WrittenZero}
 use Rattle.rules.proofs.Tests.{split, by-order, clash, and-true, cond-zero}
 use Rattle.rules.proofs.CountLaws.{sum-cong, sum-changed}
 use Rattle.rules.proofs.GainLaws.{same-colour}
-use Rattle.rules.proofs.FormLaws.{Numerals, scan-fill, none-some}
+use Rattle.rules.proofs.FormLaws.{Numerals, scan-fill}
 use Rattle.rules.proofs.ReadingLaws.{in-tested, tested-4, ranged-right}
 use Rattle.rules.proofs.InstanceLineLaws.{no-task-work, no-board-work, as-work}
 use Rattle.rules.proofs.ResidencyLaws.{held-is, freeFromLaw}
+use Rattle.rules.proofs.StartLaws.{starts, frees}
 
 -- ---- where W is held
 
@@ -128,30 +129,20 @@ workCounts I i w l z P c t =
 
 -- ---- the starts
 
-latest-some : (a : ℕ) (x y : Option ℕ) (s : ℕ) → latest (some a) (latest x y) ≡ some s → (m n : ℕ) × (x ≡ some m) × (y ≡ some n) × (s ≡ max a (max m n))
-latest-some a none y s e = none-some e
-latest-some a (some m) none s e = none-some e
-latest-some a (some m) (some n) s e = (m, n, refl, refl, cc)
-
-delayed-some : (x : Option ℕ) (d n : ℕ) → delayed x d ≡ some n → (m : ℕ) × (x ≡ some m) × (n ≡ m + d)
-delayed-some none d n e = none-some e
-delayed-some (some m) d n e = (m, refl, cc)
-
 pub earliestLaw : EarliestLaw
 unfolding earliestStart memoryStart
 earliestLaw I Q i c s =
     let P = Q .schedule in
-    let need = crossingSize I P i c + outputSize I i + workAt I i in
-    let d = crossingTime I P i c in (
+    let need = crossingSize I P i c + outputSize I i + workAt I i in (
       (λ e.
-          let x = latest-some (max (processorStart I Q c) (inputStart I P i c)) (freeFrom I P c need) (delayed (freeFrom I P c (crossingSize I P i c)) d) s e in
-          let y = delayed-some (freeFrom I P c (crossingSize I P i c)) d (x .1) (x .3) in
+          let st = starts aware I Q i c s e in
+          let f = frees I P i c (st .memory) (st .asked) in
           record {
-            third = x .0;
-            fourth = y .0;
-            enough = freeFromLaw I P c need (x .0) .0 (x .2);
-            entering = freeFromLaw I P c (crossingSize I P i c) (y .0) .0 (y .1);
-            greatest = omega (arith, x .4, y .2);
+            third = f .running;
+            fourth = f .moving;
+            enough = freeFromLaw I P c need (f .running) .0 (f .free-running);
+            entering = freeFromLaw I P c (crossingSize I P i c) (f .moving) .0 (f .free-moving);
+            greatest = omega (arith, st .start, f .greater);
           }),
       (λ f.
           rw (freeFromLaw I P c need (f .third) .1 (f .enough), freeFromLaw I P c (crossingSize I P i c) (f .fourth) .1 (f .entering))

@@ -8,7 +8,7 @@ use mathlib.Core.List.{List, [], _∷_}
 use mathlib.Core.Option.{some}
 use lib.ListN.{set}
 use Rattle.rules.specs.Limits.{maxDigits, taskNumbers, runTimes, workSizes, beforeWork}
-use Rattle.rules.specs.Model.{Colour, Task, Instance, limitOf, taskCount, taskAt, workAt, allSizes, allMemory, NoWork, isPlaced, Schedule, runAt, startAt}
+use Rattle.rules.specs.Model.{Colour, Instance, limitOf, taskCount, taskAt, workAt, allSizes, allMemory, NoWork, isPlaced, Schedule, runAt, startAt}
 use Rattle.rules.specs.Model.{colourOf, finishAt}
 use Rattle.rules.specs.Residency.{isWorkHeld, filesHeld, held, filesHorizon, horizon}
 use Rattle.rules.specs.Validity.{Verdict, refusedBy}
