@@ -20,6 +20,7 @@ use Rattle.rules.specs.ScheduleFaults as Paper
 use Rattle.rules.specs.FinerTicks.{lineBehind, sheetForms, timetableForms, OneOf, NumberLaw}
 use Rattle.rules.specs.FinerTicks.{RefusedForWidth, longInSheet, largeRunTime, largeMoveTime, longInTimetable, ChangedMarks}
 use Rattle.rules.proofs.FormLaws.{none-some}
+use Rattle.rules.proofs.WidthLaws.{Unread}
 use Rattle.rules.proofs.NumeralLaws.{spelled, digits-are, value-decimal, numeral-decimal, read-bound}
 use Rattle.rules.proofs.ReadingLaws.{wrong-right}
 use Rattle.rules.proofs.SheetFaultLaws.{sheetFaults}
@@ -66,12 +67,7 @@ inThree r s t vs = inRange r (getD vs 0 0) && inRange s (getD vs 1 0) && inRange
 abbrev pub inFour : Range → Range → Range → Range → List ℕ → Bool
 inFour r s t u vs = inThree r s t vs && inRange u (getD vs 3 0)
 
--- a line that none of the forms reads
-abbrev NotRead : List ℕ → List (List ℕ) → Type 0
-NotRead l [] = Unit {0}
-NotRead l (f ∷ fs) = (scan f l ≡ none) × NotRead l fs
-
-not-read : (l : List ℕ) (fs : List (List ℕ)) → NotRead l fs → (form : List ℕ) → OneOf fs form → (vs : List ℕ) → scan form l ≡ some vs → ⊥
+not-read : (l : List ℕ) (fs : List (List ℕ)) → Unread maxDigits l fs → (form : List ℕ) → OneOf fs form → (vs : List ℕ) → scan form l ≡ some vs → ⊥
 not-read l [] n form o vs e = absurd o
 not-read l (f ∷ fs) n form (inl q) vs e = none-some (sym (n .0) ∙ rw q at e)
 not-read l (f ∷ fs) n form (inr o) vs e = not-read l fs (n .1) form o vs e

@@ -118,7 +118,7 @@ module _ (l : List ℕ) (b : scan boardForm l ≡ none) where
         clash (rw (in-tested _ _ p, in-tested _ _ q, in-tested _ _ r, in-tested (former .moveTimes) c (record { least = s .least; most = hc }))) o))
 
 module _ (l : List ℕ) where
-  sheet-long : Unread l sheetForms → instanceLineBy former (ended l) ≡ wrong malformed
+  sheet-long : Unread formerDigits l sheetForms → instanceLineBy former (ended l) ≡ wrong malformed
   unfolding instanceLineBy
   sheet-long (b, (t, (w, (f, _)))) = rw (b, t, w, f)
 
@@ -170,7 +170,7 @@ module _ (l : List ℕ) where
   ticks-kept form vs e j =
       tick-kept (getD vs j 0) (numerals-at formerDigits vs (scan-only formerDigits (omega arith) form l vs e .numerals) (omega arith) j)
 
-  paper-long : (I : Instance) → Unread l timetableForms → scheduleLineBy former I (ended l) ≡ wrong malformed
+  paper-long : (I : Instance) → Unread formerDigits l timetableForms → scheduleLineBy former I (ended l) ≡ wrong malformed
   unfolding scheduleLineBy
   paper-long I (r, (m, (c, _))) = rw (r, m, c)
 

@@ -115,15 +115,15 @@ abbrev pub Alike : List ℕ → List (List ℕ) → Type 0
 Alike l [] = Unit {0}
 Alike l (f ∷ fs) = (scanBy formerDigits f l ≡ scan f l) × Alike l fs
 
--- none reads it by the former widths
-abbrev pub Unread : List ℕ → List (List ℕ) → Type 0
-Unread l [] = Unit {0}
-Unread l (f ∷ fs) = (scanBy formerDigits f l ≡ none) × Unread l fs
+-- none reads it, with numbers of at most d digits
+abbrev pub Unread : ℕ → List ℕ → List (List ℕ) → Type 0
+Unread d l [] = Unit {0}
+Unread d l (f ∷ fs) = (scanBy d f l ≡ none) × Unread d l fs
 
 -- what the former widths read of a line by some forms: what is read now; or nothing, and one of them has a number too long
 pub data Agree (fs : List (List ℕ)) (l : List ℕ) : Type 0 where
   agree : Alike l fs → Agree fs l
-  tooLong : Unread l fs → (form : List ℕ) → OneOf fs form → LongNumber form (ended l) → Agree fs l
+  tooLong : Unread formerDigits l fs → (form : List ℕ) → OneOf fs form → LongNumber form (ended l) → Agree fs l
 
 module _ (l : List ℕ) where
   -- a form that excludes one that the line has now
@@ -136,7 +136,7 @@ module _ (l : List ℕ) where
           let e : y .bytes ≡ l = cc (y .isEnded) in
           absurd (x l ws (y .numbers) (reads-on f l ws good-f q) (rw e at (y .hasForm)))
 
-  unread : (f : List ℕ) (gs : List (List ℕ)) → GoodForms gs → Excludes f gs → LongNumber f (ended l) → Unread l gs
+  unread : (f : List ℕ) (gs : List (List ℕ)) → GoodForms gs → Excludes f gs → LongNumber f (ended l) → Unread formerDigits l gs
   unread f [] g x y = tt
   unread f (h ∷ hs) g x y = (no-other h f (g .0) (reversed f h (x .0)) y, unread f hs (g .1) (x .1) y)
 

@@ -22,7 +22,7 @@ use Rattle.rules.specs.WorkingMemory.{KeepsUntil, byFinish, ofRelay, Wor
 use Rattle.rules.specs.WorkingMemory.{AllInRange, WorkLines, WrittenZero}
 use Rattle.rules.proofs.Tests.{split, by-order, clash, and-true, cond-zero}
 use Rattle.rules.proofs.CountLaws.{sum-cong, sum-changed}
-use Rattle.rules.proofs.GainLaws.{same-colour}
+use Rattle.rules.proofs.GainLaws.{same-colour, colour-is}
 use Rattle.rules.proofs.FormLaws.{Numerals, scan-fill}
 use Rattle.rules.proofs.ReadingLaws.{in-tested, tested-4, ranged-right}
 use Rattle.rules.proofs.InstanceLineLaws.{no-task-work, no-board-work, as-work}
@@ -30,10 +30,6 @@ use Rattle.rules.proofs.ResidencyLaws.{held-is, freeFromLaw}
 use Rattle.rules.proofs.StartLaws.{starts, frees}
 
 -- ---- where W is held
-
-colour-is : (c : Colour) → sameColour c c ≡ true
-colour-is blue = refl
-colour-is red = refl
 
 -- before the release is before the finish, or at a relay's start
 keeps : (s f t : ℕ) → s ≤ f → s ≤ t → t < max f (suc s) → KeepsUntil s f t
