@@ -1,4 +1,4 @@
--- Order 6, sheets without W: marksBeforeWork, changedForWork, plansBeforeWork, simulationsBeforeWork, withoutWork, readsNoWork.
+-- Order 6, sheets without W: marksBeforeWork, changedForWork, plansBeforeWork, simulationsBeforeWork, withoutWork, readsNoWork, readsOlder, sameOlder.
 use Prim.Native.Nat.{ℕ, zero, suc, _-_, pred}
 use mathlib.Core.Bool.{Bool, true, _&&_}
 use mathlib.Core.Path.{_≡_, refl, sym, ap, subst, _∙_}
@@ -7,12 +7,13 @@ use mathlib.Core.List.{List, [], _∷_}
 use mathlib.Core.Option.{Option, none, some}
 use native.Mathlib.Omega.{arith}
 use lib.Dec.{leb, eqb}
-use lib.ListN.{length, drop}
-use Rattle.rules.specs.Limits.{maxText, maxDigits, taskNumbers, processorCounts, memoryLimits, runTimes, moveTimes, fileSizes, current, beforeWork}
-use Rattle.rules.specs.Model.{Task, Instance, taskCount, NoWork, fileAt, fileCount, Schedule, moved}
+use lib.ListN.{length, getD, drop, List·getD-append}
+use lib.Seq.{getD-at}
+use Rattle.rules.specs.Limits.{maxText, maxDigits, taskNumbers, processorCounts, memoryLimits, runTimes, moveTimes, fileSizes, workSizes, current, beforeWork}
+use Rattle.rules.specs.Model.{Task, Instance, taskCount, workAt, NoWork, fileAt, fileCount, Schedule, moved}
 use Rattle.rules.specs.Validity.{Claim}
 use Rattle.rules.specs.Text.{Fault, malformed, Line, ended, unended, linesOf, scanBy, scan, fill, Reading, wrong, right, ifInRange, due}
-use Rattle.rules.specs.InstanceText.{boardForm, taskForm, workForm, fileForm, InstanceLine, boardLine, taskLine, fileLine, asBoard, asTask, asFile}
+use Rattle.rules.specs.InstanceText.{boardForm, taskForm, workForm, fileForm, InstanceLine, boardLine, taskLine, fileLine, asBoard, asTask, asWork, asFile}
 use Rattle.rules.specs.InstanceText.{instanceLineBy, instanceLine, fileAllowed, withTask, withFile, withBoard, withLine, InstanceRead, refused, accepted}
 use Rattle.rules.specs.InstanceText.{readRestBy, readLinesBy, readInstanceBy}
 use Rattle.rules.specs.ScheduleText.{ScheduleLine, scheduleLineBy, runOf, moveOf, claimOf, readEndBy, readClaimBy, withMove, readMovesBy, withRun}
@@ -21,10 +22,10 @@ use Rattle.rules.specs.Calls.{markBy, planBy}
 use Rattle.rules.specs.Simulation.{simulateBy}
 use Rattle.rules.specs.FinerTicks.{lineBehind}
 use Rattle.rules.specs.WorkingMemory.{HasWork, RefusedForWork, MarksBeforeWork, ChangedForWork, PlansBeforeWork, SimulationsBeforeWork, WithoutWork}
-use Rattle.rules.specs.WorkingMemory.{ReadsNoWork}
+use Rattle.rules.specs.WorkingMemory.{ReadsNoWork, ReadsOlder, SameOlder}
 use Rattle.rules.proofs.Tests.{split, by-order}
 use Rattle.rules.proofs.FormLaws.{scan-only, none-some}
-use Rattle.rules.proofs.ReadingLaws.{by-reading, ranged-right, or-else, wrong-right, due-right, all-snoc}
+use Rattle.rules.proofs.ReadingLaws.{by-reading, ranged-right, or-else, wrong-right, due-right, all-snoc, tested-4}
 use Rattle.rules.proofs.WorkLaws.{no-task}
 use Rattle.rules.proofs.InstanceLineLaws.{no-task-work, no-board-work}
 use Rattle.rules.proofs.KeptLaws.{line-behind, lines-behind}
@@ -281,3 +282,84 @@ unfolding readInstanceBy
 readsNoWork sheet I e = split (leb (length sheet) maxText)
     (λ s. lines-idle (linesOf sheet) I (rw (s, readInstanceBy) at e))
     (λ s. let z : _≡_ {A = ℕ} 0 1 = cc (rw (s, readInstanceBy) at e) in absurd (omega arith))
+
+-- ---- and a job without W is read by that reader as it is now
+
+-- what a line of the form with W says is not idle
+work-line : (l vs : List ℕ) → scan workForm l ≡ some vs → (x : InstanceLine) → instanceLine (ended l) ≡ right x → Idle x → ⊥
+unfolding instanceLineBy
+work-line l vs e x q h =
+    let (b, t, _) = other-forms l vs e in
+    let r : asWork vs ≡ right x = rw (b, t, e) at q in
+    let (ok, same) = ranged-right (inFour taskNumbers runTimes runTimes workSizes vs) _ x r in
+    let z : getD vs 3 0 ≡ 0 = rw (← same) at h in
+    omega (arith, tested-4 taskNumbers runTimes runTimes workSizes (getD vs 0 0) (getD vs 1 0) (getD vs 2 0) (getD vs 3 0) ok .3 .least)
+
+not-known : (l : Line) (x : InstanceLine) → HasWork l → instanceLine l ≡ right x → Idle x → ⊥
+not-known l x h q = work-line (h .bytes) (h .numbers) (h .hasForm) x (rw (h .isEnded) at q)
+
+-- a line that leaves a job without W is idle, and so was the job before it
+idle-back : (I J : Instance) (x : InstanceLine) → withLine I x ≡ some J → NoWork J → Idle x × NoWork I
+idle-back I J (boardLine b r) q n = none-some q
+idle-back I J (taskLine i a) q n = split (eqb (fileCount I) 0 && eqb i (suc (taskCount I)))
+    (λ t.
+    let z : withTask I a ≡ J = cc (rw t at q) in
+    let m : NoWork (withTask I a) = rw z n in (
+      ap (λ b. b .work) (sym (getD-at (I .tasks) a [] (record { onBlue = 0; onRed = 0; work = 0 }) (taskCount I) refl)) ∙ m (taskCount I),
+      λ j. by-order j (taskCount I) (λ l. ap (λ b. b .work) (sym (List·getD-append (I .tasks) (a ∷ []) _ j l)) ∙ m j) (λ l. no-task I j l),
+    ))
+    (λ t. none-some (rw t at q))
+idle-back I J (fileLine i j f c) q n = split (fileAllowed I i j)
+    (λ t. let z : withFile I (record { maker = pred i; reader = pred j; size = f; moveTime = c }) ≡ J = cc (rw t at q) in (tt, λ j. ap (λ K. workAt K j) z ∙ n j))
+    (λ t. none-some (rw t at q))
+
+rest-older : (ls : List Line) (I : Instance) (k : ℕ) (J : Instance) → NoWork J → readRestBy current I k ls ≡ accepted J
+    → (readRestBy beforeWork I k ls ≡ accepted J) × NoWork I
+unfolding readRestBy
+rest-older [] I k J n e = split (eqb (taskCount I) 0)
+    (λ t. let z : _≡_ {A = ℕ} 0 1 = cc (rw t at e) in absurd (omega arith))
+    (λ t. let z : I ≡ J = cc (rw t at e) in (e, rw z n))
+rest-older (l ∷ ls) I k J n e = by-reading (due (withLine I) (instanceLine l))
+    (λ w d. let z : _≡_ {A = ℕ} 0 1 = cc (rw (d, readRestBy) at e) in absurd (omega arith))
+    (λ K d.
+    let rest = rest-older ls K (suc k) J n (rw (d, readRestBy) at e) in
+    let (x, q, t) = due-right (withLine I) K (instanceLine l) d in
+    let back = idle-back I K x t (rest .1) in
+    elim (line-before l) [
+      | unknown _ h ↦ absurd (not-known l x h q (back .0))
+      | known s ↦ (rw (ap (due (withLine I)) s ∙ d, readRestBy) (rest .0), back .1)
+    ])
+
+board-line : (x : InstanceLine) (I : Instance) → withBoard x ≡ some I → Idle x
+board-line (boardLine b r) I e = tt
+board-line (taskLine i a) I e = none-some e
+board-line (fileLine i j f c) I e = none-some e
+
+lines-older : (ls : List Line) (J : Instance) → NoWork J → readLinesBy current ls ≡ accepted J → readLinesBy beforeWork ls ≡ accepted J
+unfolding readLinesBy
+lines-older [] J n e = e
+lines-older (l ∷ ls) J n e = by-reading (due withBoard (instanceLine l))
+    (λ w d. let z : _≡_ {A = ℕ} 0 1 = cc (rw (d, readLinesBy) at e) in absurd (omega arith))
+    (λ K d.
+    let (x, q, t) = due-right withBoard K (instanceLine l) d in
+    elim (line-before l) [
+      | unknown _ h ↦ absurd (not-known l x h q (board-line x K t))
+      | known s ↦ rw (ap (due withBoard) s ∙ d, readLinesBy) (rest-older ls K 2 J n (rw (d, readLinesBy) at e) .0)
+    ])
+
+pub readsOlder : ReadsOlder
+unfolding readInstanceBy
+readsOlder sheet I e n = split (leb (length sheet) maxText)
+    (λ s. rw (s, readInstanceBy) (lines-older (linesOf sheet) I n (rw (s, readInstanceBy) at e)))
+    (λ s. let z : _≡_ {A = ℕ} 0 1 = cc (rw (s, readInstanceBy) at e) in absurd (omega arith))
+
+-- so all answers to its sheet are the same
+pub sameOlder : SameOlder
+unfolding markBy planBy simulateBy
+sameOlder sheet I e n =
+    let f = readsOlder sheet I e n in
+    record {
+      marks = λ timetable. rw (e, f, paper-before I timetable, markBy);
+      plans = λ R buffer. rw (e, f, planBy);
+      simulations = λ timetable made steps. rw (e, f, paper-before I timetable, simulateBy);
+    }

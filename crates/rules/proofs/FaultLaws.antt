@@ -30,7 +30,7 @@ fault-by inTimetable outOfRange = refl
 fault-by inTimetable undue = refl
 
 -- the number tells the fault
-fault-told : (s : Source) (w x : Fault) → faultNumber s w ≡ faultNumber s x → w ≡ x
+pub fault-told : (s : Source) (w x : Fault) → faultNumber s w ≡ faultNumber s x → w ≡ x
 fault-told s w x e = sym (fault-by s w) ∙ ap faultBy e ∙ fault-by s x
 
 pub sheet-numbers : (w : Fault) → (1 ≤ faultNumber inSheet w) × (faultNumber inSheet w ≤ 4)
@@ -39,7 +39,7 @@ sheet-numbers malformed = (omega arith, omega arith)
 sheet-numbers outOfRange = (omega arith, omega arith)
 sheet-numbers undue = (omega arith, omega arith)
 
-timetable-numbers : (w : Fault) → (11 ≤ faultNumber inTimetable w) × (faultNumber inTimetable w ≤ 14)
+pub timetable-numbers : (w : Fault) → (11 ≤ faultNumber inTimetable w) × (faultNumber inTimetable w ≤ 14)
 timetable-numbers tooLong = (omega arith, omega arith)
 timetable-numbers malformed = (omega arith, omega arith)
 timetable-numbers outOfRange = (omega arith, omega arith)

@@ -15,7 +15,7 @@ use Rattle.rules.specs.Validity.{Verdict, refusedBy}
 use Rattle.rules.specs.Scheduling.{Partial, crossingSize, outputSize, crossingTime, processorStart, inputStart, latest, delayed, freeFrom}
 use Rattle.rules.specs.Scheduling.{aware, memoryStart, earliestStart, Planner}
 use Rattle.rules.specs.Text.{Line, ended, wrong, right, outOfRange, scan, fill}
-use Rattle.rules.specs.InstanceText.{workForm, taskLine, instanceLine, accepted, readInstanceBy}
+use Rattle.rules.specs.InstanceText.{workForm, taskLine, instanceLine, accepted, readInstanceBy, readInstance}
 use Rattle.rules.specs.Calls.{markBy, mark, Answer, planBy, plan}
 use Rattle.rules.specs.Simulation.{runTurns, taskTurns, Simulation, simulateBy, simulate}
 use Rattle.rules.specs.Promises.{In, First}
@@ -164,6 +164,14 @@ WithoutWork = (sheet : List ℕ) → ((n : ℕ) → HasWork (lineBehind sheet n)
 -- a job that such a reader reads has no W. Not: a line read with a W of its own. Alone it is met by a reader that accepts nothing; MarksBeforeWork rules that out
 abbrev pub ReadsNoWork : Type 0
 ReadsNoWork = (sheet : List ℕ) (I : Instance) → readInstanceBy beforeWork sheet ≡ accepted I → NoWork I
+
+-- and a job without W is read by such a reader as it is now, so that all answers to its sheet are the same.
+-- Not: a sheet of a job without W refused. Alone each is met by a reader that accepts nothing now; SheetExact rules that out
+abbrev pub ReadsOlder : Type 0
+ReadsOlder = (sheet : List ℕ) (I : Instance) → readInstance sheet ≡ accepted I → NoWork I → readInstanceBy beforeWork sheet ≡ accepted I
+
+abbrev pub SameOlder : Type 0
+SameOlder = (sheet : List ℕ) (I : Instance) → readInstance sheet ≡ accepted I → NoWork I → SameAnswers sheet
 
 -- and of a job without W all that the order changed behind the reading is as files alone have it: what a memory holds and when it changes no more, how much
 -- is ample, starts 3 and 4, and the simulator's ticks
