@@ -9,7 +9,7 @@ use lib.ListN.{replicate, length-append, length-map, length-replicate, getD-repl
 use lib.Seq.{getD-append-add}
 use borrow.Author.Tests.{ltb-true, lt-ltb}
 use Rattle.rules.specs.Count.{countWhere, listBelow}
-use Rattle.rules.specs.Limits.{maxTasks, maxFiles, runTimes, workSizes}
+use Rattle.rules.specs.Limits.{runTimes, workSizes}
 use Rattle.rules.specs.Model.{Colour, blue, red, Instance, sideOf, limitOf, processorCount, taskCount, fileCount, taskAt, workAt, fileAt, timeOn, NoWork}
 use Rattle.rules.specs.Promises.{In, Before, byMaker, WellFormed}
 use Rattle.rules.specs.Conversion.{hasWork, addedCount, servedAt, addedTask, withoutWork, shiftedBy, addedFile, converted}
@@ -49,6 +49,14 @@ module _ (I : Instance) where
       ap (λ n. taskAt K (n + i)) (sym (length-replicate m addedTask))
       ∙ getD-append-add (replicate m addedTask) _ i _ ∙ getD-map-below withoutWork (I .tasks) i _ _ l
 
+  pub time-old : (c : Colour) (i : ℕ) → i < taskCount I → timeOn c (taskAt K (m + i)) ≡ timeOn c (taskAt I i)
+  time-old blue i l = ap (timeOn blue) (task-old i l)
+  time-old red i l = ap (timeOn red) (task-old i l)
+
+  pub time-added : (c : Colour) (k : ℕ) → k < m → timeOn c (taskAt K k) ≡ 0
+  time-added blue k l = ap (timeOn blue) (task-added k l)
+  time-added red k l = ap (timeOn red) (task-added k l)
+
   pub file-added : (k : ℕ) → k < m → fileAt K k ≡ addedFile I k
   unfolding converted
   file-added k l = List·getD-append (listBelow m (addedFile I)) _ _ k (rw (length-listBelow m (addedFile I)) l) ∙ getD-listBelow m (addedFile I) k _ l
@@ -67,14 +75,18 @@ module _ (I : Instance) where
   pub limit-same : (c : Colour) → limitOf K c ≡ limitOf I c
   limit-same c = ap (λ s. s .limit) (side-same c)
 
+  pub blues-same : K .blueSide .processors ≡ I .blueSide .processors
+  unfolding converted
+  blues-same = refl
+
   pub processors-same : processorCount K ≡ processorCount I
   unfolding converted
   processors-same = refl
 
-  of-task : (C : ℕ → Type 0) → ((i : ℕ) → i < m → C i) → ((i : ℕ) → i < taskCount I → C (m + i)) → (i : ℕ) → i < taskCount K → C i
+  pub of-task : (C : ℕ → Type 0) → ((i : ℕ) → i < m → C i) → ((i : ℕ) → i < taskCount I → C (m + i)) → (i : ℕ) → i < taskCount K → C i
   of-task C f g i l = below-either C m (taskCount I) f g i (omega (arith, tasks-converted))
 
-  of-file : (C : ℕ → Type 0) → ((k : ℕ) → k < m → C k) → ((k : ℕ) → k < fileCount I → C (m + k)) → (k : ℕ) → k < fileCount K → C k
+  pub of-file : (C : ℕ → Type 0) → ((k : ℕ) → k < m → C k) → ((k : ℕ) → k < fileCount I → C (m + k)) → (k : ℕ) → k < fileCount K → C k
   of-file C f g k l = below-either C m (fileCount I) f g k (omega (arith, files-converted))
 
   -- each task served exists, and has W

@@ -1,4 +1,4 @@
--- Order 7, the converter: convertRefused, convertExact, convertEnds, convertedShort, sameSheet, convertedReads, strippedAccepted.
+-- Order 7, the converter: convertRefused, convertExact, convertEnds, convertedShort, sameSheet, convertedReads, strippedAccepted, extendedAccepted.
 use Prim.Native.Nat.{ℕ, suc, _+_, _≤_, _<_}
 use mathlib.Core.List.{List, [], _∷_, map}
 use mathlib.Core.Logic.{_↔_, inl, inr}
@@ -15,12 +15,13 @@ use Rattle.rules.specs.Model.{Instance, Task, File, taskCount, fileCount
 use Rattle.rules.specs.Validity.{Claim, acceptedWith, trueClaim}
 use Rattle.rules.specs.Text.{Fault, tooLong, malformed, outOfRange, undue, inSheet, faultNumber}
 use Rattle.rules.specs.InstanceText.{InstanceRead, refused, accepted, readInstance, instanceText}
+use Rattle.rules.specs.ScheduleText.{scheduleText}
 use Rattle.rules.specs.Calls.{mark, overwritten}
 use Rattle.rules.specs.Promises.{WellFormed}
-use Rattle.rules.specs.Conversion.{hasWork, addedCount, withoutWork, shiftedBy, converted, convertedText, stripped, strippedText}
+use Rattle.rules.specs.Conversion.{hasWork, addedCount, withoutWork, shiftedBy, converted, convertedText, stripped, strippedText, extended}
 use Rattle.rules.specs.Conversion.{Output, unwritten, output, ifConvertible, convertOn, convert}
 use Rattle.rules.specs.ConversionPromises.{Convertible, ConvertedExactly, ConvertExact, ConvertRefused, ConvertedOrRefused, ConvertEnds, ConvertedShort}
-use Rattle.rules.specs.ConversionPromises.{SameSheet, ReadsWithoutWork, ConvertedReads, LeftAccepted, StrippedAccepted}
+use Rattle.rules.specs.ConversionPromises.{SameSheet, ConvertedReads, LeftAccepted, StrippedAccepted, ExtendedAccepted}
 use Rattle.rules.proofs.Tests.{split}
 use Rattle.rules.proofs.CountLaws.{sum-zero}
 use Rattle.rules.proofs.WhereLaws.{length-where}
@@ -31,6 +32,7 @@ use Rattle.rules.proofs.TimetableLaws.{timetable-exact}
 use Rattle.rules.proofs.BeforeWorkLaws.{readsOlder, sameOlder}
 use Rattle.rules.proofs.ConversionLaws.{tasks-converted, files-converted, converted-formed, converted-idle}
 use Rattle.rules.proofs.StrippedLaws.{left-valid, left-spelled}
+use Rattle.rules.proofs.ExtendedLaws.{extended-valid, extended-spelled}
 
 -- ---- the answers by cases
 
@@ -235,6 +237,28 @@ pub strippedAccepted : StrippedAccepted
 strippedAccepted sheet buffer timetable I claim e z v =
     let s = success sheet buffer I e z in
     left-accepted sheet timetable I claim e (s .fit) (rw (s .text) at v)
+
+-- ---- and the other way round
+
+pub extendedAccepted : ExtendedAccepted
+extendedAccepted sheet buffer timetable I claim e z v =
+    let s = success sheet buffer I e z in
+    let W = sheetExact sheet I .0 e .0 in
+    let WK = converted-formed I W (s .fit) in
+    let x = markerExact sheet timetable I e claim .0 v in
+    let P = x .schedule in
+    record {
+      schedule = P;
+      isRead = timetable-exact I W timetable P claim .1 (x .spellable, x .dueLines);
+      verdict =
+          rw (s .text)
+          (markerExact (convertedText I) (scheduleText (converted I) (extended I P) claim) (converted I) (converted-read I W (s .fit)) claim .1 (record {
+            schedule = extended I P;
+            spellable = extended-spelled I P claim W WK (x .spellable) (x .valid);
+            dueLines = refl {a = scheduleText (converted I) (extended I P) claim};
+            valid = extended-valid I P claim W WK (x .spellable) (x .valid);
+          }));
+    }
 
 -- ---- a sheet without W
 

@@ -1,6 +1,6 @@
--- Order 7, what is left of a timetable of the converted job: strippedLaw; of a valid one it is valid for the original. Each added file is held, in the memory of
--- the task that it serves, at least while that task's W is.
-use Prim.Native.Nat.{ℕ, _+_, _-_, _≤_, _<_}
+-- Order 7, what is left of a timetable of the converted job: strippedLaw; of a valid one it is valid for the original. Each added file is held, in the
+-- memory of the task that it serves, at least while that task's W is.
+use Prim.Native.Nat.{ℕ, _+_, _≤_, _<_}
 use mathlib.Core.Bool.{Bool, true, false, not, cond, _&&_}
 use mathlib.Core.Path.{_≡_, refl, sym, ap, _∙_}
 use native.Mathlib.Omega.{arith}
@@ -10,7 +10,7 @@ use lib.ListN.{length, length-drop}
 use lib.Seq.{getD-drop}
 use borrow.Author.Tests.{ltb-true, leb-true, le-leb, lt-ltb}
 use Rattle.rules.specs.Limits.{ticks}
-use Rattle.rules.specs.Model.{Colour, blue, red, sameColour, Instance, taskCount, fileCount, taskAt, workAt, fileAt, sizeAt, timeOn, isPlaced, Schedule, runAt, startAt, moveAt, colourOf, finishAt, releaseOf, makerRun, readerRun, moveEnd, unplaced}
+use Rattle.rules.specs.Model.{Colour, blue, red, sameColour, Instance, taskCount, fileCount, workAt, fileAt, sizeAt, isPlaced, Schedule, runAt, startAt, moveAt, colourOf, finishAt, releaseOf, makerRun, readerRun, moveEnd, unplaced}
 use Rattle.rules.specs.Residency.{during, never, closedHold, covers, filesHeld, workHeld, held, isHeld, isWorkHeld, workBy}
 use Rattle.rules.specs.Validity.{Claim, Apart, AllOnTime, WithinLimits, Valid, makespan, peak, trueClaim}
 use Rattle.rules.specs.Promises.{In, WellFormed, Spellable}
@@ -23,7 +23,7 @@ use Rattle.rules.proofs.CompleteLaws.{Complete, spellable-complete, mak
 use Rattle.rules.proofs.AppendLaws.{sum-append}
 use Rattle.rules.proofs.InsideLaws.{Inside, same-colour, moved-same, finish-later, release-later, onTime-here, share-there, held-later}
 use Rattle.rules.proofs.WhereLaws.{where-sum}
-use Rattle.rules.proofs.ConversionLaws.{tasks-converted, files-converted, task-old, file-added, file-old, limit-same, processors-same, serves}
+use Rattle.rules.proofs.ConversionLaws.{tasks-converted, files-converted, time-old, blues-same, file-added, file-old, limit-same, processors-same, serves}
 
 -- ---- holds
 
@@ -63,18 +63,10 @@ module _ (I : Instance) (P : Schedule) (claim : Claim) (W : WellFormed I) (WK : 
   unfolding stripped
   move-left k = getD-drop m (P .moves) k 0
 
-  time-old : (c : Colour) (i : ℕ) → i < taskCount I → timeOn c (taskAt K (m + i)) ≡ timeOn c (taskAt I i)
-  time-old blue i l = ap (timeOn blue) (task-old I i l)
-  time-old red i l = ap (timeOn red) (task-old I i l)
-
-  blues-same : K .blueSide .processors ≡ I .blueSide .processors
-  unfolding converted
-  blues-same = refl
-
   pub left-inside : Inside I left K P (λ i. m + i) (λ k. m + k) 0
   left-inside = record {
-    blues = blues-same;
-    times = time-old;
+    blues = blues-same I;
+    times = time-old I;
     runs = λ i l. sym (ap (λ r. r .processor) (run-left i));
     starts = λ i l. sym (ap (λ r. r .start) (run-left i)) ∙ sym (zero-add (startAt left i));
     makers = λ k l. ap (λ f. f .maker) (file-old I k l);

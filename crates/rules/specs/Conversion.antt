@@ -6,7 +6,7 @@ use lib.ListN.{length, getD, drop, replicate}
 use lib.Dec.{ltb, eqb}
 use Rattle.rules.specs.Count.{listBelow, listWhere}
 use Rattle.rules.specs.Limits.{maxTasks, maxFiles}
-use Rattle.rules.specs.Model.{Task, File, Instance, taskCount, fileCount, workAt, Schedule}
+use Rattle.rules.specs.Model.{Task, File, Instance, taskCount, fileCount, workAt, Schedule, runAt}
 use Rattle.rules.specs.Validity.{Verdict, judge}
 use Rattle.rules.specs.Text.{inSheet, inTimetable, faultNumber}
 use Rattle.rules.specs.InstanceText.{refused, accepted, readInstance, instanceText}
@@ -68,6 +68,13 @@ stripped I P = record { runs = drop (addedCount I) (P .runs); moves = drop (adde
 -- its due lines, with the claim worked out afresh
 abbrev pub strippedText : Instance → Schedule → List ℕ
 strippedText I P = planText I (stripped I P)
+
+-- a timetable of the original as one of the converted job: each added task runs on the processor and at the start of the task that it serves
+unfoldable pub extended : Instance → Schedule → Schedule
+extended I P = record {
+  runs = listBelow (addedCount I) (λ k. runAt P (servedAt I k)) ++ P .runs;
+  moves = replicate (addedCount I) 0 ++ P .moves;
+}
 
 -- ---- the calls
 

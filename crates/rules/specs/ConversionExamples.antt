@@ -1,7 +1,8 @@
 -- Order 7 on the course example with W: one table, and one fact about its rows.
 use Prim.Native.Nat.{ℕ}
+use Prim.Native.String.{String}
 use mathlib.Core.Bool.{Bool, true, _&&_}
-use mathlib.Core.List.{List, [], _∷_}
+use mathlib.Core.List.{List, [], _∷_, _++_}
 use lib.ListN.{replicate}
 use lib.Dec.{T, eqb}
 use Rattle.rules.specs.Count.{sumBelow, maxBelow, anyBelow, firstBelow, listBelow, listWhere}
@@ -45,18 +46,27 @@ sheetW : List ℕ
 sheetW = ascii "(board (blue 1 6) (red 1 6))\n(task 1 4 2 1)\n(task 2 3 5)\n(task 3 2 6 1)\n(file 1 2 2 1)\n(file 1 3 3 2)\n"
 
 textW : List ℕ
-textW = ascii "(board (blue 1 6) (red 1 6))\n(task 1 0 0)\n(task 2 0 0)\n(task 3 4 2)\n(task 4 3 5)\n(task 5 2 6)\n(file 1 3 1 1)\n(file 2 5 1 1)\n(file 3 4 2 1)\n(file 3 5 3 2)\n"
+textW =
+    ascii "(board (blue 1 6) (red 1 6))\n(task 1 0 0)\n(task 2 0 0)\n(task 3 4 2)\n(task 4 3 5)\n(task 5 2 6)\n"
+    ++ ascii "(file 1 3 1 1)\n(file 2 5 1 1)\n(file 3 4 2 1)\n(file 3 5 3 2)\n"
 
--- a timetable of that sheet: the second added task runs on red, so its file moves, and blue's peak is one more than without it
+-- a timetable of that sheet, by the start of the second added task and the claim. That task runs on red, so its file moves
+paperLike : String → String → List ℕ
+paperLike start claim =
+    ascii "(run 1 2 0)\n(run 2 2 " ++ ascii start ++ ascii ")\n(run 3 2 0)\n(run 4 1 3)\n(run 5 1 6)\n(move 2 5 5)\n(move 3 4 2)\n(move 3 5 4)\n(claim "
+    ++ ascii claim ++ ascii ")\n"
+
+-- at 2 it is valid, and blue's peak is one more than without it
 paperW : List ℕ
-paperW = ascii "(run 1 2 0)\n(run 2 2 2)\n(run 3 2 0)\n(run 4 1 3)\n(run 5 1 6)\n(move 2 5 5)\n(move 3 4 2)\n(move 3 5 4)\n(claim 8 6 6)\n"
+unfolding paperLike
+paperW = paperLike "2" "8 6 6"
 
 -- what is left of it
 leftW : List ℕ
 leftW = ascii "(run 1 2 0)\n(run 2 1 3)\n(run 3 1 6)\n(move 1 2 2)\n(move 1 3 4)\n(claim 8 5 6)\n"
 
 pub table : List Row
-unfolding sheet sheetA sheetW textW paperW leftW
+unfolding sheet sheetA sheetW textW paperLike paperW leftW
 table =
     -- two of three tasks have W; a buffer of just its length, and one byte too short
     converts sheetW 200 0 154 textW
@@ -70,9 +80,9 @@ table =
     ∷ strips sheetW paperW 100 0 76 leftW
     ∷ strips sheetW paperW 75 31 76 []
     -- the second added task at 0: red then holds 7, over its limit
-    ∷ strips sheetW (ascii "(run 1 2 0)\n(run 2 2 0)\n(run 3 2 0)\n(run 4 1 3)\n(run 5 1 6)\n(move 2 5 5)\n(move 3 4 2)\n(move 3 5 4)\n(claim 8 6 7)\n") 100 17 0 []
+    ∷ strips sheetW (paperLike "0" "8 6 7") 100 17 0 []
     -- an untrue claim; a timetable of the original
-    ∷ strips sheetW (ascii "(run 1 2 0)\n(run 2 2 2)\n(run 3 2 0)\n(run 4 1 3)\n(run 5 1 6)\n(move 2 5 5)\n(move 3 4 2)\n(move 3 5 4)\n(claim 8 5 6)\n") 100 18 0 []
+    ∷ strips sheetW (paperLike "2" "8 5 6") 100 18 0 []
     ∷ strips sheetW leftW 100 14 4 []
     ∷ []
 

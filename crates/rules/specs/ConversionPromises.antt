@@ -13,9 +13,9 @@ use Rattle.rules.specs.Model.{Colour, Instance, sideOf, taskCount, fileC
 use Rattle.rules.specs.Validity.{Claim, acceptedWith, refusedBy, trueClaim}
 use Rattle.rules.specs.Text.{Fault, inSheet, faultNumber}
 use Rattle.rules.specs.InstanceText.{refused, accepted, readInstanceBy, readInstance}
-use Rattle.rules.specs.ScheduleText.{read, readSchedule}
+use Rattle.rules.specs.ScheduleText.{read, readSchedule, scheduleText}
 use Rattle.rules.specs.Calls.{mark, overwritten}
-use Rattle.rules.specs.Conversion.{hasWork, addedCount, servedAt, converted, convertedText, stripped, strippedText, Output, unwritten, output, convert, strip}
+use Rattle.rules.specs.Conversion.{hasWork, addedCount, servedAt, converted, convertedText, stripped, strippedText, extended, Output, unwritten, output, convert, strip}
 use Rattle.rules.specs.Promises.{WellFormed}
 use Rattle.rules.specs.WorkingMemory.{SameAnswers}
 
@@ -62,8 +62,8 @@ pub record Convertible (I : Instance) : Type 0 where
   pub tasks : addedCount I + taskCount I ≤ maxTasks
   pub files : addedCount I + fileCount I ≤ maxFiles
 
--- of an answer a for an accepted sheet: 41 exactly if over 64 tasks result; 42 exactly if not, and over 256 files do; 31 with the bytes needed exactly if neither
--- and the text is longer than the buffer; success with the text written exactly if it fits
+-- of an answer a for an accepted sheet: 41 exactly if over 64 tasks result; 42 exactly if not, and over 256 files do; 31 with the bytes needed exactly if
+-- neither, and the text is longer than the buffer; success with the text written exactly if it fits
 pub record ConvertedExactly (I : Instance) (buffer : List ℕ) (a : Output) : Type 0 where
   pub at41 : (a ≡ unwritten 41 0 buffer) ↔ (maxTasks < addedCount I + taskCount I)
   pub at42 : (a ≡ unwritten 42 0 buffer) ↔ ((addedCount I + taskCount I ≤ maxTasks) × (maxFiles < addedCount I + fileCount I))
@@ -127,6 +127,20 @@ StrippedAccepted =
     (sheet buffer timetable : List ℕ) (I : Instance) (claim : Claim) → readInstance sheet ≡ accepted I →
     let a = convert sheet buffer in
     a .number ≡ 0 → mark (take (a .place) (a .buffer)) timetable ≡ acceptedWith claim → LeftAccepted sheet timetable I claim
+
+-- a timetable is read on the original, and with the added runs it is accepted for the converted sheet with the same span and peaks
+pub record ExtendedThere (text timetable : List ℕ) (I : Instance) (claim : Claim) : Type 0 where
+  pub schedule : Schedule
+  pub isRead : readSchedule I timetable ≡ read schedule claim
+  pub verdict : mark text (scheduleText (converted I) (extended I schedule) claim) ≡ acceptedWith claim
+
+-- the other way round nothing is lost: a timetable accepted for the original is one of the sheet written, with each added task run where and when the task
+-- that it serves starts, and no span or peak grows. Not: limits of 0; an added file that is held longer than W has to be, or of a greater size
+abbrev pub ExtendedAccepted : Type 0
+ExtendedAccepted =
+    (sheet buffer timetable : List ℕ) (I : Instance) (claim : Claim) → readInstance sheet ≡ accepted I →
+    let a = convert sheet buffer in
+    a .number ≡ 0 → mark sheet timetable ≡ acceptedWith claim → ExtendedThere (take (a .place) (a .buffer)) timetable I claim
 
 -- ---- the stripper's answers
 
