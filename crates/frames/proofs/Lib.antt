@@ -8,3 +8,5 @@ pub mod PlanLaws
 pub mod SimulateLaws
 -- the exported calls
 pub mod ExportLaws
+-- Order 7: its demands, and its calls by what was read
+pub mod ConversionDemandLaws

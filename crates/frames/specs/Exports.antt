@@ -3,6 +3,7 @@ use Prim.Native.Nat.{ℕ}
 use mathlib.Core.List.{List, [], _∷_}
 use Rattle.rules.specs.Validity.{Verdict}
 use Rattle.rules.specs.Calls.{Answer}
+use Rattle.rules.specs.Conversion.{Output}
 use Rattle.rules.specs.Simulation.{Simulation, numberOf, placeOf, leftOf, spanOf}
 
 abbrev pub verdictNumbers : Verdict → List ℕ
@@ -10,6 +11,9 @@ verdictNumbers v = v .number ∷ v .place ∷ v .span ∷ v .bluePeak ∷ v .red
 
 abbrev pub answerNumbers : Answer → List ℕ
 answerNumbers a = a .number ∷ a .place ∷ a .trials ∷ []
+
+abbrev pub outputNumbers : Output → List ℕ
+outputNumbers a = a .number ∷ a .place ∷ []
 
 -- number, place, 1 if steps are left, span, steps made, time
 abbrev pub simulationNumbers : Simulation → List ℕ

@@ -6,7 +6,9 @@ ghost use lib.ListN.{length};
 ghost use Rattle.rules.specs.Calls.{mark as rules-mark, faultLine, overwritten, plan as rules-plan};
 ghost use Rattle.rules.specs.Scheduling.{plain, heft, minMin, memHeft, memMinMin};
 ghost use Rattle.rules.specs.Simulation.{simulate as rules-simulate};
-ghost use Rattle.frames.specs.Exports.{verdictNumbers, answerNumbers, simulationNumbers};
+ghost use Rattle.rules.specs.Conversion.{convert as rules-convert, strip as rules-strip};
+ghost use Rattle.frames.specs.Exports.{verdictNumbers, answerNumbers, simulationNumbers, outputNumbers};
+use crate::converter;
 use crate::marker;
 use crate::planners;
 use crate::simulation;
@@ -99,4 +101,29 @@ pub extern "C" fn frames_simulate<'a>(
     *running = tasks;
     let files = a.contents;
     *contents = files;
+}
+
+// Number and place of `convert`; the sheet is in `out`.
+#[no_mangle]
+pub extern "C" fn frames_convert(sheet: &[u8], out: &mut [u8], result: &mut [u64; 2])
+    ensures { λ r. ⌜ now (result .exit) ≡ outputNumbers (rules-convert (now (sheet .entry)) (now (out .entry))) ⌝ }
+    ensures { λ r. ⌜ now (out .exit) ≡ rules-convert (now (sheet .entry)) (now (out .entry)) .buffer ⌝ }
+{
+    let a = converter::convert(sheet, out);
+    *result = [a.number, a.place];
+}
+
+// Number and place of `strip`; the timetable is in `out`.
+#[no_mangle]
+pub extern "C" fn frames_strip<'a>(
+    sheet: &'a [u8],
+    paper: &'a [u8],
+    out: &mut [u8],
+    result: &mut [u64; 2],
+)
+    ensures { λ r. ⌜ now (result .exit) ≡ outputNumbers (rules-strip (now (sheet .entry)) (now (paper .entry)) (now (out .entry))) ⌝ }
+    ensures { λ r. ⌜ now (out .exit) ≡ rules-strip (now (sheet .entry)) (now (paper .entry)) (now (out .entry)) .buffer ⌝ }
+{
+    let a = converter::strip(sheet, paper, out);
+    *result = [a.number, a.place];
 }

@@ -1,9 +1,13 @@
 // The public calls. None has a `requires`: any bytes may be handed in.
+mod converter;
 mod exports;
 mod marker;
 mod planners;
 mod simulation;
 
+pub use convert_text::Converted;
+pub use converter::convert;
+pub use converter::strip;
 pub use marker::fault_line;
 pub use marker::mark;
 pub use plan_text::Answer;

@@ -8,3 +8,5 @@ pub mod BuildLaws
 pub mod ReadLaws
 -- an accepted sheet
 pub mod AcceptedLaws
+-- the text by its lines
+pub mod TextLaws

@@ -2,3 +2,4 @@
 pub mod Lines
 pub mod Steps
 pub mod Reads
+pub mod Sizes

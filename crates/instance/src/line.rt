@@ -1,4 +1,4 @@
-// A line of a board sheet, read.
+// What a line of a board sheet says.
 ghost use mathlib.Core.Path.{_≡_};
 ghost use mathlib.Core.List.{[], _∷_};
 ghost use Rattle.rules.specs.Limits.{taskNumbers, runTimes, inRange};
@@ -11,6 +11,15 @@ use rules::Checked;
 use rules::Side;
 use rules::between;
 use text::Numbers;
+
+// The forms; `#` stands for a number. A task with W has the third.
+pub const BOARD_FORM: [u8; 28] = *b"(board (blue # #) (red # #))";
+
+pub const TASK_FORM: [u8; 12] = *b"(task # # #)";
+
+pub const WORK_FORM: [u8; 14] = *b"(task # # # #)";
+
+pub const FILE_FORM: [u8; 14] = *b"(file # # # #)";
 
 // What a line says, or its fault. A task's `work` is 0 where W is left out.
 pub enum Line {
@@ -121,7 +130,7 @@ pub fn parse(line: &[u8]) -> Line
         second,
         third,
         fourth,
-    } = text::scan(b"(board (blue # #) (red # #))", line) {
+    } = text::scan(&BOARD_FORM, line) {
         return board_of(first, second, third, fourth);
     }
     if let Numbers::Are {
@@ -129,7 +138,7 @@ pub fn parse(line: &[u8]) -> Line
         second,
         third,
         fourth: _,
-    } = text::scan(b"(task # # #)", line) {
+    } = text::scan(&TASK_FORM, line) {
         return task_of(first, second, third, 0);
     }
     if let Numbers::Are {
@@ -137,7 +146,7 @@ pub fn parse(line: &[u8]) -> Line
         second,
         third,
         fourth,
-    } = text::scan(b"(task # # # #)", line) {
+    } = text::scan(&WORK_FORM, line) {
         return work_of(first, second, third, fourth);
     }
     let Numbers::Are {
@@ -145,7 +154,7 @@ pub fn parse(line: &[u8]) -> Line
         second,
         third,
         fourth,
-    } = text::scan(b"(file # # # #)", line)
+    } = text::scan(&FILE_FORM, line)
     else {
         return Line::Malformed;
     };

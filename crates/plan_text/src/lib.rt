@@ -25,7 +25,7 @@ impl Answer {
 }
 
 // Writes a complete schedule with its true claim, if the buffer is long enough.
-fn write_plan<'a>(
+pub fn write_plan<'a>(
     shape: Shape,
     job: &'a [u64; layout::JOB],
     schedule: &'a [u64; layout::SCHEDULE],

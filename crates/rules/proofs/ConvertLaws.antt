@@ -64,12 +64,12 @@ or-too-many I buffer a =
 
 -- ---- the converter's answers
 
-convert-refused : (sheet buffer : List ℕ) (w : Fault) (k : ℕ) → readInstance sheet ≡ refused w k
+pub convert-refused : (sheet buffer : List ℕ) (w : Fault) (k : ℕ) → readInstance sheet ≡ refused w k
     → convert sheet buffer ≡ unwritten (faultNumber inSheet w) k buffer
 unfolding convert
 convert-refused sheet buffer w k e = rw (e, convert)
 
-convert-accepted : (sheet buffer : List ℕ) (I : Instance) → readInstance sheet ≡ accepted I → convert sheet buffer ≡ convertOn I buffer
+pub convert-accepted : (sheet buffer : List ℕ) (I : Instance) → readInstance sheet ≡ accepted I → convert sheet buffer ≡ convertOn I buffer
 unfolding convert
 convert-accepted sheet buffer I e = rw (e, convert)
 

@@ -57,12 +57,12 @@ module _ (I : Instance) (timetable buffer : List ℕ) (W : WellFormed I) (fit : 
 
 -- ---- the stripper's answers
 
-strip-refused : (sheet timetable buffer : List ℕ) (w : Fault) (k : ℕ) → readInstance sheet ≡ refused w k
+pub strip-refused : (sheet timetable buffer : List ℕ) (w : Fault) (k : ℕ) → readInstance sheet ≡ refused w k
     → strip sheet timetable buffer ≡ unwritten (faultNumber inSheet w) k buffer
 unfolding strip
 strip-refused sheet timetable buffer w k e = rw (e, strip)
 
-strip-accepted : (sheet timetable buffer : List ℕ) (I : Instance) → readInstance sheet ≡ accepted I → strip sheet timetable buffer ≡ stripOn I timetable buffer
+pub strip-accepted : (sheet timetable buffer : List ℕ) (I : Instance) → readInstance sheet ≡ accepted I → strip sheet timetable buffer ≡ stripOn I timetable buffer
 unfolding strip
 strip-accepted sheet timetable buffer I e = rw (e, strip)
 

@@ -11,7 +11,5 @@ pub mod StoreLaws
 pub mod ReadLoops
 pub mod CrossingLaws
 pub mod ReadLaws
--- the text by its lines, its length and its bytes
+-- the text by its lines
 pub mod TextLaws
-pub mod SizeLaws
-pub mod LaidLaws

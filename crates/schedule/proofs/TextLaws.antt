@@ -1,16 +1,17 @@
 -- The text of a timetable as pieces: a line for each task, a line or nothing for each file, and the claim's line.
 use Prim.Native.Nat.{ℕ, suc, _+_, _≤_, _<_}
-use mathlib.Core.Path.{_≡_, ap, _∙_}
+use mathlib.Core.Path.{_≡_, _∙_}
 use mathlib.Core.Bool.{true, false}
 use mathlib.Core.List.{List, [], _++_, append-assoc}
 use native.Mathlib.Numerals.{add-one}
-use native.Mathlib.Omega.{arith}
-use lib.ListN.{length, length-append}
+use lib.ListN.{length}
 use Rattle.rules.specs.Model.{Instance, Schedule, runAt, moveAt, moved}
 use Rattle.rules.specs.Text.{lf}
 use Rattle.rules.specs.Validity.{Claim}
 use Rattle.rules.specs.ScheduleText.{runLine, moveLine, claimLine, scheduleBytes, runLines, moveLines, scheduleText}
 use Rattle.rules.proofs.ScheduleTextLaws.{moveBytes, runs-next, moves-more, text-parts}
+use Rattle.text.proofs.SizeLaws.{three-length}
+use Rattle.text.proofs.LaidLaws.{Fits, three-fit}
 use Rattle.model.specs.declared.layout.Shape.{Shape}
 use Rattle.model.specs.Layout.{Job, Entries, instanceFrom, scheduleFrom}
 use Rattle.model.proofs.LayoutLaws.{task-count, file-count, maker-at, reader-at, run-at, move-at}
@@ -49,12 +50,6 @@ text-pieces b J L c =
     let P = scheduleFrom b L in
     text-parts I P c ∙ rw (task-count b J, file-count b J, append-assoc)
 
--- the runs' lines, those with the moves', and the whole text, in n bytes
-pub record Fits (runs moves last : List ℕ) (n : ℕ) : Type 0 where
-  pub first : length runs ≤ n
-  pub second : length (runs ++ moves) ≤ n
-  pub third : length ((runs ++ moves) ++ last) ≤ n
-
 module _ (b : Shape) (J : Job) (L : Entries) (c : Claim) where
   abbrev I : Instance
   I = instanceFrom b J
@@ -71,18 +66,8 @@ module _ (b : Shape) (J : Job) (L : Entries) (c : Claim) where
   abbrev lastPart : List ℕ
   lastPart = scheduleBytes (claimLine c) ++ lf
 
-  whole-length : length (scheduleText I P c) ≡ length runsPart + length movesPart + length lastPart
-  whole-length =
-      ap length (text-pieces b J L c) ∙ length-append (runsPart ++ movesPart) lastPart
-      ∙ ap (λ (n : ℕ). n + length lastPart) (length-append runsPart movesPart)
-
   pub text-length : (r m l : ℕ) → r ≡ length runsPart → m ≡ length movesPart → l ≡ length lastPart → r + m + l ≡ length (scheduleText I P c)
-  text-length r m l p q s = omega (arith, whole-length)
+  text-length r m l p q s = rw (text-pieces b J L c) (three-length runsPart movesPart lastPart p q s)
 
   pub text-fits : (n : ℕ) → length (scheduleText I P c) ≤ n → Fits runsPart movesPart lastPart n
-  text-fits n h =
-      record {
-        first = omega (arith, whole-length);
-        second = omega (arith, whole-length, length-append runsPart movesPart);
-        third = omega (arith, ap length (text-pieces b J L c));
-      }
+  text-fits n h = three-fit runsPart movesPart lastPart (rw (text-pieces b J L c) at h)

@@ -1,4 +1,5 @@
--- The laws that the proofs of this crate cite, in the order to read them. Other crates cite those of PartLaws, FirstLineLaws and WroteLaws.
+-- The laws that the proofs of this crate cite, in the order to read them. Other crates cite those of PartLaws, FirstLineLaws, WroteLaws,
+-- SizeLaws and LaidLaws.
 pub mod PartLaws
 -- reading
 pub mod FrontLaws
@@ -10,3 +11,6 @@ pub mod ScanLaws
 pub mod WroteLaws
 pub mod WriteNumeralLaws
 pub mod FillLaws
+-- many lines: their length and their bytes
+pub mod SizeLaws
+pub mod LaidLaws

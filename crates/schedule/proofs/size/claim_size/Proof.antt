@@ -2,7 +2,7 @@
 use native.Mathlib.Omega.{arith}
 use borrow.Author.Needs.{needs}
 use Rattle.rules.specs.ScheduleText.{claimForm}
-use Rattle.schedule.proofs.SizeLaws.{line-short}
+use Rattle.text.proofs.SizeLaws.{end, word, line-short}
 use Rattle.schedule.proofs.size.claim_size.Statement.{statement}
 use Rattle.schedule.proofs.size.claim_size.Tie as tie
 
@@ -15,12 +15,13 @@ slice-aggregate-line-size-2 c = search needs
 line-size-requires : tie.Need-line-size-requires
 line-size-requires c κs =
     let s = c .before .before in
-    omega (arith, line-short claimForm (s .fits .span .fits) (s .fits .blue .fits) (s .fits .red .fits))
+    omega (arith, line-short claimForm (word (s .fits .span .fits) (word (s .fits .blue .fits) (word (s .fits .red .fits) end))))
 
 returns : tie.Need-returns
 returns c =
     let s = c .before .before .before in
-    (c .line-size .ensures, omega (arith, c .line-size .ensures, line-short claimForm (s .fits .span .fits) (s .fits .blue .fits) (s .fits .red .fits)))
+    let h = line-short claimForm (word (s .fits .span .fits) (word (s .fits .blue .fits) (word (s .fits .red .fits) end))) in
+    (c .line-size .ensures, omega (arith, c .line-size .ensures, h))
 
 pub claim-size-spec : {M : Type 1} → statement M
 claim-size-spec =

@@ -5,21 +5,23 @@ use borrow.Author.Needs.{needs}
 use denote.Ref.{now}
 use Rattle.rules.specs.ScheduleText.{moveLines}
 use Rattle.rules.proofs.ScheduleTextLaws.{moves-none}
+use Rattle.text.proofs.SizeLaws.{Counted, counted-none, counted-next, counted-skip, counted-all}
 use Rattle.model.specs.Layout.{jobOf, entriesOf, instanceFrom, scheduleFrom}
+use Rattle.schedule.specs.Sizes.{longest}
 use Rattle.schedule.proofs.CrossingLaws.{moved-is}
 use Rattle.schedule.proofs.TextLaws.{moves-grow, move-piece, no-piece}
-use Rattle.schedule.proofs.SizeLaws.{Counted, counted-none, counted-next, counted-skip, counted-all}
 use Rattle.schedule.proofs.size.moves_size.Statement.{statement}
 use Rattle.schedule.proofs.size.moves_size.Tie as tie
 
 abbrev Inv-loop : tie.InvT-loop
-Inv-loop shape job schedule n₀ k₀ n k = Counted (moveLines (instanceFrom shape (jobOf job)) (scheduleFrom shape (entriesOf schedule))) (shape .files) n k
+Inv-loop shape job schedule n₀ k₀ n k =
+    Counted longest (moveLines (instanceFrom shape (jobOf job)) (scheduleFrom shape (entriesOf schedule))) (shape .files) n k
 
 abbrev μ-loop : tie.MeasureT-loop
 μ-loop shape job schedule n₀ k₀ n k = shape .files - k
 
 loop-holds : tie.Need-loop-holds Inv-loop μ-loop
-loop-holds c = counted-none _ _ (moves-none _ _)
+loop-holds c = counted-none _ _ _ (moves-none _ _)
 
 moves-requires : tie.Need-moves-requires Inv-loop μ-loop
 moves-requires c κs = search needs

@@ -2,7 +2,7 @@
 use native.Mathlib.Omega.{arith}
 use borrow.Author.Needs.{needs}
 use Rattle.rules.specs.ScheduleText.{runForm}
-use Rattle.schedule.proofs.SizeLaws.{line-short}
+use Rattle.text.proofs.SizeLaws.{end, word, line-short}
 use Rattle.schedule.proofs.size.run_size.Statement.{statement}
 use Rattle.schedule.proofs.size.run_size.Tie as tie
 
@@ -15,12 +15,13 @@ slice-aggregate-line-size-2 c = search needs
 line-size-requires : tie.Need-line-size-requires
 line-size-requires c κs =
     let s = c .before .before in
-    omega (arith, line-short runForm (s .fits .i .fits) (s .fits .processor .fits) (s .fits .start .fits))
+    omega (arith, line-short runForm (word (s .fits .i .fits) (word (s .fits .processor .fits) (word (s .fits .start .fits) end))))
 
 returns : tie.Need-returns
 returns c =
     let s = c .before .before .before in
-    (c .line-size .ensures, omega (arith, c .line-size .ensures, line-short runForm (s .fits .i .fits) (s .fits .processor .fits) (s .fits .start .fits)))
+    let h = line-short runForm (word (s .fits .i .fits) (word (s .fits .processor .fits) (word (s .fits .start .fits) end))) in
+    (c .line-size .ensures, omega (arith, c .line-size .ensures, h))
 
 pub run-size-spec : {M : Type 1} → statement M
 run-size-spec =

@@ -5,20 +5,21 @@ use borrow.Author.Needs.{needs}
 use denote.Ref.{now}
 use Rattle.rules.specs.ScheduleText.{runLines}
 use Rattle.rules.proofs.ScheduleTextLaws.{runs-none}
+use Rattle.text.proofs.SizeLaws.{Counted, counted-none, counted-next, counted-all}
 use Rattle.model.specs.Layout.{entriesOf, scheduleFrom}
+use Rattle.schedule.specs.Sizes.{longest}
 use Rattle.schedule.proofs.TextLaws.{runs-grow, run-piece}
-use Rattle.schedule.proofs.SizeLaws.{Counted, counted-none, counted-next, counted-all}
 use Rattle.schedule.proofs.size.runs_size.Statement.{statement}
 use Rattle.schedule.proofs.size.runs_size.Tie as tie
 
 abbrev Inv-loop : tie.InvT-loop
-Inv-loop shape schedule n₀ i₀ n i = Counted (runLines (scheduleFrom shape (entriesOf schedule))) (shape .tasks) n i
+Inv-loop shape schedule n₀ i₀ n i = Counted longest (runLines (scheduleFrom shape (entriesOf schedule))) (shape .tasks) n i
 
 abbrev μ-loop : tie.MeasureT-loop
 μ-loop shape schedule n₀ i₀ n i = shape .tasks - i
 
 loop-holds : tie.Need-loop-holds Inv-loop μ-loop
-loop-holds c = counted-none _ _ (runs-none _)
+loop-holds c = counted-none _ _ _ (runs-none _)
 
 add-run-size : tie.Need-add-run-size Inv-loop μ-loop
 add-run-size c = search needs

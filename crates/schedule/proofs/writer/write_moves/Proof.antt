@@ -5,10 +5,10 @@ use borrow.Author.Needs.{needs}
 use denote.Ref.{now}
 use Rattle.rules.specs.ScheduleText.{moveLines}
 use Rattle.rules.proofs.ScheduleTextLaws.{moves-none}
+use Rattle.text.proofs.LaidLaws.{Laid, laid-none, laid-within, laid-length, laid-room, laid-next, laid-skip, laid-all}
 use Rattle.model.specs.Layout.{jobOf, entriesOf, instanceFrom, scheduleFrom}
 use Rattle.schedule.proofs.CrossingLaws.{moved-is}
 use Rattle.schedule.proofs.TextLaws.{moves-grow, move-piece, no-piece}
-use Rattle.schedule.proofs.LaidLaws.{Laid, laid-none, laid-within, laid-length, laid-room, laid-next, laid-skip, laid-all}
 use Rattle.schedule.proofs.writer.write_moves.Statement.{statement}
 use Rattle.schedule.proofs.writer.write_moves.Tie as tie
 

@@ -5,9 +5,9 @@ use borrow.Author.Needs.{needs}
 use denote.Ref.{now}
 use Rattle.rules.specs.ScheduleText.{runLines}
 use Rattle.rules.proofs.ScheduleTextLaws.{runs-none}
+use Rattle.text.proofs.LaidLaws.{Laid, laid-none, laid-within, laid-length, laid-room, laid-next, laid-all}
 use Rattle.model.specs.Layout.{entriesOf, scheduleFrom}
 use Rattle.schedule.proofs.TextLaws.{runs-grow, run-piece}
-use Rattle.schedule.proofs.LaidLaws.{Laid, laid-none, laid-within, laid-length, laid-room, laid-next, laid-all}
 use Rattle.schedule.proofs.writer.write_runs.Statement.{statement}
 use Rattle.schedule.proofs.writer.write_runs.Tie as tie
 

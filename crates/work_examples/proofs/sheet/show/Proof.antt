@@ -31,8 +31,8 @@ enum-told c = search needs
 returns : tie.Need-returns
 returns c = search needs
 
-put-sheet-requires : tie.Need-put-sheet-requires
-put-sheet-requires c κs =
+print-sheet-requires : tie.Need-print-sheet-requires
+print-sheet-requires c κs =
     let read = c .before .before .before .before in
     let r = read .read in
     let sheet = read .before .before .before .before .before .before .before .before .args .sheet .now in
@@ -54,5 +54,5 @@ show-spec =
     enum-known-shape
     enum-told
     returns
-    put-sheet-requires
+    print-sheet-requires
     returns-2)

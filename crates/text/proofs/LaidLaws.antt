@@ -4,9 +4,9 @@ use mathlib.Core.Path.{_≡_, sym, ap, _∙_}
 use mathlib.Core.List.{List, [], _++_, append-nil}
 use native.Mathlib.Numerals.{add-one}
 use native.Mathlib.Omega.{arith}
-use lib.ListN.{length, take, drop}
+use lib.ListN.{length, take, drop, length-append}
 use Rattle.text.specs.Wrote.{Wrote}
 use Rattle.text.proofs.WroteLaws.{wrote-none, wrote-length, wrote-within, wrote-room, wrote-part, grows}
 
 -- the pieces before i are laid down, up to `at`; all of them fit
 pub record Laid (f : ℕ → List ℕ) (all : ℕ) (old out : List ℕ) (at i : ℕ) : Type 0 where
@@ -50,3 +50,17 @@ module _ (f g : ℕ → List ℕ) (grow : (i : ℕ) → f (suc i) ≡ f i ++ g i
   laid-skip h e =
       rw (add-one i)
       (record { passed = h; wrote = rw (grow i ∙ ap (λ (t : List ℕ). f i ++ t) e ∙ append-nil (f i)) (q .wrote); room = q .room })
+
+-- ---- three pieces, one behind the other: the first, the first two and all of them are at most n bytes
+pub record Fits (a b c : List ℕ) (n : ℕ) : Type 0 where
+  pub first : length a ≤ n
+  pub second : length (a ++ b) ≤ n
+  pub third : length ((a ++ b) ++ c) ≤ n
+
+pub three-fit : (a b c : List ℕ) {n : ℕ} → length ((a ++ b) ++ c) ≤ n → Fits a b c n
+three-fit a b c h =
+    record {
+      first = omega (arith, length-append (a ++ b) c, length-append a b);
+      second = omega (arith, length-append (a ++ b) c);
+      third = h;
+    }

@@ -1,0 +1,2 @@
+-- What the contracts of this crate cite besides the definitions of `rules`.
+pub mod Marked
