@@ -31,7 +31,7 @@ use Rattle.rules.proofs.SheetLaws.{sheetExact, text-long}
 use Rattle.rules.proofs.TimetableLaws.{timetable-exact}
 use Rattle.rules.proofs.BeforeWorkLaws.{readsOlder, sameOlder}
 use Rattle.rules.proofs.ConversionLaws.{tasks-converted, files-converted, converted-formed, converted-idle}
-use Rattle.rules.proofs.StrippedLaws.{left-valid, left-spelled}
+use Rattle.rules.proofs.StrippedLaws.{left-valid, left-spelled, left-span, left-blue, left-red}
 use Rattle.rules.proofs.ExtendedLaws.{extended-valid, extended-spelled}
 
 -- ---- the answers by cases
@@ -217,6 +217,7 @@ convertedReads sheet buffer I e z =
 
 pub left-accepted : (sheet timetable : List ℕ) (I : Instance) (claim : Claim) → readInstance sheet ≡ accepted I → Convertible I
     → mark (convertedText I) timetable ≡ acceptedWith claim → LeftAccepted sheet timetable I claim
+unfolding trueClaim
 left-accepted sheet timetable I claim e fit v =
     let W = sheetExact sheet I .0 e .0 in
     let WK = converted-formed I W fit in
@@ -231,6 +232,9 @@ left-accepted sheet timetable I claim e fit v =
         dueLines = refl {a = strippedText I P};
         valid = left-valid I P claim W WK (x .spellable) (x .valid);
       });
+      span = left-span I P claim W WK (x .spellable) (x .valid);
+      bluePeak = left-blue I P claim W WK (x .spellable) (x .valid);
+      redPeak = left-red I P claim W WK (x .spellable) (x .valid);
     }
 
 pub strippedAccepted : StrippedAccepted

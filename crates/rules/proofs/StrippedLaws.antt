@@ -10,20 +10,20 @@ use lib.ListN.{length, length-drop}
 use lib.Seq.{getD-drop}
 use borrow.Author.Tests.{ltb-true, leb-true, le-leb, lt-ltb}
 use Rattle.rules.specs.Limits.{ticks}
-use Rattle.rules.specs.Model.{Colour, blue, red, sameColour, Instance, taskCount, fileCount, workAt, fileAt, sizeAt, isPlaced, Schedule, runAt, startAt, moveAt, colourOf, finishAt, releaseOf, makerRun, readerRun, moveEnd, unplaced}
+use Rattle.rules.specs.Model.{Colour, blue, red, sameColour, Instance, taskCount, fileCount, workAt, fileAt, sizeAt, isPlaced, Schedule, runAt, startAt, moveAt, colourOf, finishAt, releaseOf, makerRun, readerRun, moved, madeAt, moveEnd, unplaced}
 use Rattle.rules.specs.Residency.{during, never, closedHold, covers, filesHeld, workHeld, held, isHeld, isWorkHeld, workBy}
-use Rattle.rules.specs.Validity.{Claim, Apart, AllOnTime, WithinLimits, Valid, makespan, peak, trueClaim}
+use Rattle.rules.specs.Validity.{Claim, Greatest, Apart, AllOnTime, WithinLimits, Valid, makespan, peak, trueClaim}
 use Rattle.rules.specs.Promises.{In, WellFormed, Spellable}
 use Rattle.rules.specs.Conversion.{hasWork, addedCount, servedAt, converted, stripped}
 use Rattle.rules.specs.ConversionPromises.{StrippedLaw}
 use Rattle.rules.proofs.Tests.{split, clash, and-true, and-no}
-use Rattle.rules.proofs.CountLaws.{sum-cong, sum-mono, max-under}
+use Rattle.rules.proofs.CountLaws.{sum-cong, sum-mono, max-bound, max-under}
 use Rattle.rules.proofs.HoldLaws.{hold-closed}
 use Rattle.rules.proofs.CompleteLaws.{Complete, spellable-complete, maker-placed, reader-placed, peak-greatest, true-claimed}
 use Rattle.rules.proofs.AppendLaws.{sum-append}
 use Rattle.rules.proofs.InsideLaws.{Inside, same-colour, moved-same, finish-later, release-later, onTime-here, share-there, held-later}
 use Rattle.rules.proofs.WhereLaws.{where-sum}
-use Rattle.rules.proofs.ConversionLaws.{tasks-converted, files-converted, time-old, blues-same, file-added, file-old, limit-same, processors-same, serves}
+use Rattle.rules.proofs.ConversionLaws.{tasks-converted, files-converted, time-old, blues-same, file-added, file-old, limit-same, processors-same, serves, of-task}
 
 -- ---- holds
 
@@ -160,6 +160,43 @@ module _ (I : Instance) (P : Schedule) (claim : Claim) (W : WellFormed I) (WK : 
     claimTrue = true-claimed I W left left-placed;
   }
 
+  -- ---- the span stays, since an added run is over when its reader starts; and no peak grows
+
+  added-early : (k : ℕ) → k < m → finishAt K P k ≤ finishAt K P (m + servedAt I k)
+  added-early k l =
+      let lk : k < fileCount K = omega (arith, files-converted I) in
+      let o = valid .onTime k lk in
+      let made : madeAt K P k ≡ finishAt K P k = ap (λ f. finishAt K P (f .maker)) (file-added I k l) in
+      let start : startAt P (fileAt K k .reader) ≡ startAt P (m + servedAt I k) = ap (λ f. startAt P (f .reader)) (file-added I k l) in
+      split (moved K P k) (λ e. omega (arith, o .made e, o .arrived e)) (λ e. omega (arith, o .unmoved e))
+
+  old-span : (i : ℕ) → i < taskCount I → finishAt K P (m + i) ≤ makespan I left
+  unfolding makespan
+  old-span i l = omega (arith, finish-later W left-placed left-inside i l, max-bound (taskCount I) (finishAt I left) i l)
+
+  pub left-span : makespan I left ≡ claim .span
+  unfolding makespan
+  left-span =
+      let (x, l, e) = valid .claimTrue .span .reached in
+      let most : finishAt K P x ≤ makespan I left =
+      of-task I (λ i. finishAt K P i ≤ makespan I left) (λ k lk. omega (arith, added-early k lk, old-span (servedAt I k) (serves I k lk .0))) old-span x l in
+      omega (
+        arith,
+        max-under (taskCount I) (finishAt I left) (claim .span) (λ i li.
+            omega (arith, finish-later W left-placed left-inside i li, valid .claimTrue .span .bound (m + i) (omega (arith, tasks-converted I)))),
+      )
+
+  left-peak : (c : Colour) (n : ℕ) → Greatest (λ t. Unit {0}) (held K P c) n → peak I left c ≤ n
+  left-peak c n g =
+      let (t, u, e) = peak-greatest I W left left-placed c .reached in
+      omega (arith, held-less c t, g .bound t u)
+
+  pub left-blue : peak I left blue ≤ claim .bluePeak
+  left-blue = left-peak blue (claim .bluePeak) (valid .claimTrue .bluePeak)
+
+  pub left-red : peak I left red ≤ claim .redPeak
+  left-red = left-peak red (claim .redPeak) (valid .claimTrue .redPeak)
+
   -- ---- and it can be spelled
 
   runs-length : length (left .runs) ≡ taskCount I
@@ -177,16 +214,7 @@ module _ (I : Instance) (P : Schedule) (claim : Claim) (W : WellFormed I) (WK : 
   old-file k l = omega (arith, files-converted I)
 
   span-range : In ticks (makespan I left)
-  unfolding makespan
-  span-range = record {
-    least = omega arith;
-    most = omega (
-      arith,
-      S .span .most,
-      max-under (taskCount I) (finishAt I left) (claim .span) (λ i l.
-          omega (arith, finish-later W left-placed left-inside i l, valid .claimTrue .span .bound (m + i) (old-task i l))),
-    );
-  }
+  span-range = rw left-span (S .span)
 
   peak-range : (c : Colour) → In ticks (peak I left c)
   peak-range c =

@@ -114,11 +114,14 @@ ConvertedReads =
     let a = convert sheet buffer in
     a .number ≡ 0 → ReadsWithoutWork I (take (a .place) (a .buffer))
 
--- a timetable is read on the converted sheet, and what is left of it is accepted for the original with its own true claim
+-- a timetable is read on the converted sheet, and what is left of it is accepted for the original with its own true claim: the same span, and no greater peaks
 pub record LeftAccepted (sheet timetable : List ℕ) (I : Instance) (claim : Claim) : Type 0 where
   pub schedule : Schedule
   pub isRead : readSchedule (converted I) timetable ≡ read schedule claim
   pub verdict : mark sheet (strippedText I schedule) ≡ acceptedWith (trueClaim I (stripped I schedule))
+  pub span : trueClaim I (stripped I schedule) .span ≡ claim .span
+  pub bluePeak : trueClaim I (stripped I schedule) .bluePeak ≤ claim .bluePeak
+  pub redPeak : trueClaim I (stripped I schedule) .redPeak ≤ claim .redPeak
 
 -- the order's theorem: a timetable accepted for the sheet written, stripped, is accepted for the original.
 -- Not: an added file that is held less long than W, or of another size. Alone it is met by a sheet on which nothing is accepted; ShapeLaw rules that out

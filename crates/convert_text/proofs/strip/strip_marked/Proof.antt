@@ -43,10 +43,17 @@ write-left-requires c κs =
     let v = w .before in
     let s = v .before .before .before .before in
     let b = s .args .shape in
-    let J = jobOf (s .args .job .now) in
-    (s .pre .0, (s .pre .1 .0, (s .pre .1 .1,
-    left-spellable b _ J _ _ _ (w .widened .ensures) (v .convert .ensures) (s .args .paper .now) (t .mark-into .ensures) (s .pre .0)
-    (convertible b J _ (s .pre .1 .0) (s .pre .1 .1)) (x .if1 .left))))
+    let J = jobOf (s .args .job .now) in (
+      s .pre .0,
+      (
+        s .pre .1 .0,
+        (
+          s .pre .1 .1,
+          left-spellable b _ J _ _ _ (w .widened .ensures) (v .convert .ensures) (s .args .paper .now) (t .mark-into .ensures) (s .pre .0)
+              (convertible b J _ (s .pre .1 .0) (s .pre .1 .1)) (x .if1 .left),
+        ),
+      ),
+    )
 
 same-length : tie.Need-same-length
 same-length c = search needs
