@@ -9,7 +9,8 @@ use Rattle.rules.specs.Validity.{Claim, Verdict, judge, acceptedWith, trueClaim
 use Rattle.rules.specs.Text.{inTimetable}
 use Rattle.rules.specs.ScheduleText.{readSchedule}
 use Rattle.rules.specs.Promises.{WellFormed, Spellable}
-use Rattle.rules.specs.Conversion.{converted, stripped, strippedText, unwritten, output, stripRead}
+use Rattle.rules.specs.Conversion.{converted, stripped, strippedText, unwritten, output}
+use Rattle.rules.specs.Stripping.{stripRead}
 use Rattle.rules.specs.ConversionPromises.{Convertible}
 use Rattle.rules.proofs.JudgeLaws.{Judged, by15, by16, by17, by18, by0, judged}
 use Rattle.rules.proofs.ValidLaws.{judge-exact}

@@ -8,7 +8,8 @@ use Rattle.rules.specs.Limits.{maxText}
 use Rattle.rules.specs.Model.{Instance}
 use Rattle.rules.specs.Text.{inSheet, faultNumber}
 use Rattle.rules.specs.InstanceText.{InstanceRead as Reading, refused, accepted, readInstance}
-use Rattle.rules.specs.Conversion.{Output, convertedText, strippedText, unwritten, output, convertOn, convert, stripOn, strip}
+use Rattle.rules.specs.Conversion.{Output, convertedText, strippedText, unwritten, output, convertOn, convert}
+use Rattle.rules.specs.Stripping.{stripOn, strip}
 use Rattle.rules.specs.ConversionPromises.{Convertible}
 use Rattle.rules.proofs.SheetLaws.{sheetExact}
 use Rattle.rules.proofs.SheetFaultLaws.{sheetFaults}

@@ -1,4 +1,4 @@
--- The demands of Order 7 as clauses of the public contracts: what rules' promises say of the answer at hand.
+-- The demands of Order 7, and those of the stripper, as clauses of the public contracts: what rules' promises say of the answer at hand.
 use Prim.Native.Nat.{ℕ, _≤_}
 use mathlib.Core.Path.{_≡_}
 use mathlib.Core.Logic.{_↔_}
@@ -13,7 +13,8 @@ use Rattle.rules.specs.Calls.{mark}
 use Rattle.rules.specs.SheetFaults.{SheetFault}
 use Rattle.rules.specs.Conversion.{Output, unwritten, output}
 use Rattle.rules.specs.ConversionPromises.{ConvertedShape, ConvertedOrRefused, ConvertedExactly, ReadsWithoutWork, LeftAccepted, ExtendedThere}
-use Rattle.rules.specs.ConversionPromises.{StrippedLaw, StrippedOrRefused, StrippedExactly}
+use Rattle.rules.specs.ConversionPromises.{StrippedLaw}
+use Rattle.rules.specs.Stripping.{StrippedOrRefused, StrippedExactly}
 
 -- what the converter's answer a to a board sheet promises, with the bytes that the lent buffer then holds
 pub record ConverterDemands (sheet buffer : List ℕ) (a : Output) : Type 0 where

@@ -1,6 +1,7 @@
 // The converter: a board sheet for readers that lack working memory. And the stripper: what is left of a timetable of that sheet.
 ghost use mathlib.Core.Path.{_≡_};
-ghost use Rattle.rules.specs.Conversion.{convert as rules-convert, strip as rules-strip};
+ghost use Rattle.rules.specs.Conversion.{convert as rules-convert};
+ghost use Rattle.rules.specs.Stripping.{strip as rules-strip};
 ghost use Rattle.convert_text.specs.Answers.{asOutput};
 ghost use Rattle.frames.specs.ConversionDemands.{ConverterDemands, StripperDemands};
 use convert_text::Converted;

@@ -1,4 +1,4 @@
--- Order 7, the stripper: stripRefused, stripExact, stripEnds, strippedShort, stripAccepted.
+-- The stripper: stripRefused, stripExact, stripEnds, strippedShort, stripAccepted.
 use Prim.Native.Nat.{ℕ}
 use mathlib.Core.List.{List}
 use mathlib.Core.Logic.{inl, inr}
@@ -13,9 +13,10 @@ use Rattle.rules.specs.InstanceText.{InstanceRead, refused, accepted, re
 use Rattle.rules.specs.ScheduleText.{ScheduleRead, refused as refusedTimetable, read, readSchedule}
 use Rattle.rules.specs.Calls.{mark}
 use Rattle.rules.specs.Promises.{WellFormed}
-use Rattle.rules.specs.Conversion.{converted, convertedText, stripped, strippedText, Output, unwritten, output, stripMarked, stripRead, stripOn, strip}
-use Rattle.rules.specs.ConversionPromises.{Convertible, AcceptedThere, ofTimetable, StrippedExactly, StripExact, StripRefused, StrippedOrRefused}
-use Rattle.rules.specs.ConversionPromises.{StripEnds, StrippedShort, StripAccepted}
+use Rattle.rules.specs.Conversion.{converted, convertedText, stripped, strippedText, Output, unwritten, output}
+use Rattle.rules.specs.ConversionPromises.{Convertible}
+use Rattle.rules.specs.Stripping.{stripMarked, stripRead, stripOn, strip, AcceptedThere, ofTimetable, StrippedExactly, StripExact, StripRefused}
+use Rattle.rules.specs.Stripping.{StrippedOrRefused, StripEnds, StrippedShort, StripAccepted}
 use Rattle.rules.proofs.JudgeLaws.{Judged, by15, by16, by17, by18, by0, judged}
 use Rattle.rules.proofs.MarkerLaws.{mark-timetable, mark-judges, fault-numbered, markerExact}
 use Rattle.rules.proofs.FaultLaws.{timetable-numbers}

@@ -3,14 +3,12 @@ use Prim.Native.Nat.{ℕ, _+_}
 use mathlib.Core.Bool.{Bool, cond}
 use mathlib.Core.List.{List, _++_, map}
 use lib.ListN.{length, getD, drop, replicate}
-use lib.Dec.{ltb, eqb}
+use lib.Dec.{ltb}
 use Rattle.rules.specs.Count.{listBelow, listWhere}
 use Rattle.rules.specs.Limits.{maxTasks, maxFiles}
 use Rattle.rules.specs.Model.{Task, File, Instance, taskCount, fileCount, workAt, Schedule, runAt}
-use Rattle.rules.specs.Validity.{Verdict, judge}
-use Rattle.rules.specs.Text.{inSheet, inTimetable, faultNumber}
+use Rattle.rules.specs.Text.{inSheet, faultNumber}
 use Rattle.rules.specs.InstanceText.{refused, accepted, readInstance, instanceText}
-use Rattle.rules.specs.ScheduleText.{ScheduleRead, refused as refusedTimetable, read, readSchedule}
 use Rattle.rules.specs.Calls.{Answer, written, planText}
 
 -- ---- the converted job
@@ -76,7 +74,7 @@ extended I P = record {
   moves = replicate (addedCount I) 0 ++ P .moves;
 }
 
--- ---- the calls
+-- ---- the call
 
 -- the answer of a call that writes one text, and what the lent buffer then holds
 pub record Output : Type 0 where
@@ -110,23 +108,4 @@ convert sheet buffer =
     elim (readInstance sheet) [
       | refused w k ↦ unwritten (faultNumber inSheet w) k buffer
       | accepted I ↦ convertOn I buffer
-    ]
-
--- the stripper: what is left of a timetable of the converted sheet, written for the original. By the verdict on that timetable, by what was read of
--- it, behind an accepted sheet, and on a sheet
-abbrev pub stripMarked : Instance → Schedule → List ℕ → Verdict → Output
-stripMarked I P buffer v = cond (eqb (v .number) 0) (output (strippedText I P) buffer) (unwritten (v .number) (v .place) buffer)
-
-abbrev pub stripRead : Instance → List ℕ → ScheduleRead → Output
-stripRead I buffer (refusedTimetable w k) = unwritten (faultNumber inTimetable w) k buffer
-stripRead I buffer (read P claim) = stripMarked I P buffer (judge (converted I) P claim)
-
-abbrev pub stripOn : Instance → List ℕ → List ℕ → Output
-stripOn I timetable buffer = ifConvertible I buffer (stripRead I buffer (readSchedule (converted I) timetable))
-
-unfoldable pub strip : List ℕ → List ℕ → List ℕ → Output
-strip sheet timetable buffer =
-    elim (readInstance sheet) [
-      | refused w k ↦ unwritten (faultNumber inSheet w) k buffer
-      | accepted I ↦ stripOn I timetable buffer
     ]

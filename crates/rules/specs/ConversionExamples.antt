@@ -12,7 +12,8 @@ use Rattle.rules.specs.Text.{ascii, linesOf, digitsOf, decimalBy, decima
 use Rattle.rules.specs.InstanceText.{instanceLineBy, readRestBy, readLinesBy, readInstanceBy, taskLines, fileLines, instanceText}
 use Rattle.rules.specs.ScheduleText.{scheduleLineBy, readEndBy, readClaimBy, readMovesBy, readRunsBy, readScheduleBy, runLines, moveLines, scheduleText}
 use Rattle.rules.specs.Calls.{overwritten}
-use Rattle.rules.specs.Conversion.{Output, converted, stripped, convert, strip}
+use Rattle.rules.specs.Conversion.{Output, converted, stripped, convert}
+use Rattle.rules.specs.Stripping.{strip}
 use Rattle.rules.specs.Examples.{same, sheet, sheetA}
 
 -- the converter on a sheet, or the stripper on a sheet and a timetable of the converted one, with a lent buffer of so many bytes: number, place and text

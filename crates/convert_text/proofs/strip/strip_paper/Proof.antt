@@ -2,7 +2,8 @@
 use mathlib.Core.Path.{sym, _∙_}
 use native.Mathlib.Omega.{arith}
 use Rattle.rules.specs.ScheduleText.{readSchedule}
-use Rattle.rules.specs.Conversion.{converted, stripRead}
+use Rattle.rules.specs.Conversion.{converted}
+use Rattle.rules.specs.Stripping.{stripRead}
 use Rattle.model.specs.Layout.{jobOf, instanceFrom}
 use Rattle.model.proofs.LayoutLaws.{job-bounds}
 use Rattle.convert_text.proofs.RefusalLaws.{is-refused, is-converted, fits}
