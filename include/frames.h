@@ -1,5 +1,5 @@
-/* Plans, marks and simulates timetables for a board with two memories. Link target/staticlib/libframes.a, which ./build (or `rt staticlib
- * frames`) writes. docs/RULES.md has the rules.
+/* Plans, marks and simulates timetables for a board with two memories, and converts board sheets for readers that lack working memory (W). Link
+ * target/staticlib/libframes.a, which ./build (or `rt staticlib frames`) writes. docs/RULES.md has the rules.
  *
  * A text is a pointer and a length in bytes, and any bytes may be in it: what is wrong with them is the answer. What a caller has to see to:
  *   - Each pointer has as many bytes behind it as its length says, readable, and writable for `line` and `out`. With length 0 it may be NULL.
@@ -19,18 +19,20 @@ extern "C" {
 #endif
 
 /* The longest text that is read, in bytes. No timetable of a planner is longer (proved: `PlansShort` of crates/rules), so a buffer of this length is
- * never too short; nor is one of 8303 bytes (`PlansInRange`). */
+ * never too short; nor is one of 8303 bytes (`PlansInRange`). A converted sheet and a stripped timetable are no longer than this either
+ * (`ConvertedShort`, `StrippedShort`). */
 #define FRAMES_MAX_TEXT 32768
 
 /* Stack that is enough for any call, in bytes. On the largest sheet (64 tasks, 256 files) a planner used 15 KB, the marker, with every file
- * moved, 18 KB and the simulator 19 KB: tests/calls.c runs each call on a painted stack, and fails if one uses more than this. */
+ * moved, 18 KB, the simulator 19 KB, frames_convert 20 KB and frames_strip 31 KB: tests/calls.c runs each call on a painted stack, and fails if one
+ * uses more than this. */
 #define FRAMES_STACK 32768
 
 /* The numbers that a call answers. The place is what stands in brackets; lines and tasks are counted from 1. The marker answers 0, 1 to 4 and 11
  * to 18, a planner 0, 1 to 4, 31 and, if it is memory-aware, 21, the simulator 0, 1 to 4 and 11 to 17, where the place of 15, 16 and 17 is the
- * faulty tick. */
+ * faulty tick, frames_convert 0, 1 to 4, 31, 41 and 42, frames_strip these and 11 to 18. */
 enum frames_number {
-    FRAMES_OK = 0,                   /* accepted (0), planned (bytes written), or simulated (0) */
+    FRAMES_OK = 0,                   /* accepted (0), planned, converted or stripped (bytes written), or simulated (0) */
     FRAMES_SHEET_TOO_LONG = 1,       /* the board sheet is over FRAMES_MAX_TEXT bytes (0) */
     FRAMES_SHEET_MALFORMED = 2,      /* a line of it is none of its forms, lacks its LF, or is missing (line) */
     FRAMES_SHEET_OUT_OF_RANGE = 3,   /* a number of it is out of its range (line) */
@@ -44,7 +46,9 @@ enum frames_number {
     FRAMES_OVER_LIMIT = 17,          /* a memory holds more than its limit (first such tick) */
     FRAMES_CLAIM_UNTRUE = 18,        /* the claim is untrue (0) */
     FRAMES_STUCK = 21,               /* the memory-aware planner is stuck: no ready task fits (tasks placed) */
-    FRAMES_BUFFER_TOO_SHORT = 31     /* the lent buffer is too short for the timetable (bytes needed) */
+    FRAMES_BUFFER_TOO_SHORT = 31,    /* the lent buffer is too short for the text (bytes needed) */
+    FRAMES_TOO_MANY_TASKS = 41,      /* the converted sheet would have over 64 tasks (0) */
+    FRAMES_TOO_MANY_FILES = 42       /* the converted sheet would have over 256 files (0) */
 };
 
 /* Marks a timetable (paper) on a board sheet. result: number, place, span, blue peak, red peak; on a refusal the last three are 0. */
@@ -82,6 +86,25 @@ void frames_min_min(const uint8_t *sheet, size_t sheet_len, uint8_t *out, size_t
  * memory, 2 in red, 3 in both. Every call fills all three arrays; behind the board's processors and the sheet's files they are 0. */
 void frames_simulate(const uint8_t *sheet, size_t sheet_len, const uint8_t *paper, size_t paper_len, uint64_t made, uint64_t steps,
                      uint64_t result[6], uint64_t running[16], uint64_t contents[256]);
+
+/* Converts a board sheet for readers that do not know W, and writes the converted sheet to the front of out; the bytes behind it stay, and on a
+ * refusal all do. Each of the m tasks with W gets a maker of run times 0 and 0, whose file has size W and move time 1. The added tasks are 1 to m, in
+ * the order of the tasks that they serve; the old ones follow, shifted by m and without W. The added files come first, and the board line stays. A
+ * sheet without W is written byte for byte.
+ * result: number, place. A refusal is the first of these that applies: 1 to 4 where the sheet is refused, at the marker's place; 41 if over 64 tasks
+ * would result, and then 42 if over 256 files would, both with place 0; 31 if the converted sheet does not fit into out, with the bytes needed. On
+ * success the number is 0, and the place is the bytes written. */
+void frames_convert(const uint8_t *sheet, size_t sheet_len, uint8_t *out, size_t out_len, uint64_t result[2]);
+
+/* Strips a timetable of the converted sheet (paper) of what the conversion added. `sheet` is the sheet as it was before. The added runs and the moves
+ * of the added files are left out, the other lines are renumbered, and the claim is worked out afresh for `sheet`: the span and the peaks, with each W
+ * held by the task that has it. frames_mark accepts the result on `sheet`. It is written to the front of out; the bytes behind it stay, and on a
+ * refusal all do.
+ * result: number, place. A refusal is the first of these that applies: 1 to 4, 41 and 42 as frames_convert answers them to `sheet`; 11 to 18 where
+ * frames_mark refuses the paper on the converted sheet, with its number and place; 31 if the stripped timetable does not fit into out, with the bytes
+ * needed. On success the number is 0, and the place is the bytes written. */
+void frames_strip(const uint8_t *sheet, size_t sheet_len, const uint8_t *paper, size_t paper_len, uint8_t *out, size_t out_len,
+                  uint64_t result[2]);
 
 #ifdef __cplusplus
 }

@@ -237,6 +237,145 @@ static void working_memory(void) {
     EXPECT("W over a limit, simulated", s.result, FRAMES_OVER_LIMIT, 3, 0, 0, 0, 0);
 }
 
+/* The course example with working memory and limits of 8, the sheet that it is converted to, a timetable of that one, and what is left of it. */
+static const char with_work[] =
+    "(board (blue 1 8) (red 1 8))\n(task 1 4 2)\n(task 2 3 5 1)\n(task 3 2 6 2)\n(file 1 2 2 1)\n(file 1 3 3 2)\n";
+static const char converted[] = "(board (blue 1 8) (red 1 8))\n(task 1 0 0)\n(task 2 0 0)\n(task 3 4 2)\n(task 4 3 5)\n(task 5 2 6)\n"
+                                "(file 1 4 1 1)\n(file 2 5 2 1)\n(file 3 4 2 1)\n(file 3 5 3 2)\n";
+static const char with_added[] = "(run 1 2 2)\n(run 2 1 0)\n(run 3 2 0)\n(run 4 1 3)\n(run 5 1 6)\n"
+                                 "(move 1 4 2)\n(move 3 4 2)\n(move 3 5 4)\n(claim 8 8 6)\n";
+static const char stripped[] = "(run 1 2 0)\n(run 2 1 3)\n(run 3 1 6)\n(move 1 2 2)\n(move 1 3 4)\n(claim 8 6 5)\n";
+
+/* A result of two numbers with a word on both sides. */
+typedef struct {
+    uint64_t a, result[2], b;
+} conversion;
+
+static void expect_conversion(const char *what, const conversion *c, uint64_t number, uint64_t place) {
+    EXPECT(what, c->result, number, place);
+    expect_that(what, c->a == PAINT && c->b == PAINT);
+}
+
+/* The converter's call with its number and place. */
+static void convert(const char *what, text sheet, uint8_t *out, size_t len, uint64_t number, uint64_t place) {
+    conversion c;
+    memset(&c, 0xA5, sizeof c);
+    frames_convert(sheet.bytes, sheet.len, out, len, c.result);
+    expect_conversion(what, &c, number, place);
+}
+
+/* The call that strips a timetable, with its number and place. */
+static void strip(const char *what, text sheet, text table, uint8_t *out, size_t len, uint64_t number, uint64_t place) {
+    conversion c;
+    memset(&c, 0xA5, sizeof c);
+    frames_strip(sheet.bytes, sheet.len, table.bytes, table.len, out, len, c.result);
+    expect_conversion(what, &c, number, place);
+}
+
+/* A sheet of so many tasks, of which the first so many have working memory, and of the first so many pairs of tasks as files. */
+static text many(int tasks, int works, int files) {
+    static char sheet[FRAMES_MAX_TEXT];
+    char *s = sheet;
+    s += sprintf(s, "(board (blue 1 9) (red 1 9))\n");
+    for (int i = 1; i <= tasks; i++) s += sprintf(s, i <= works ? "(task %d 1 1 1)\n" : "(task %d 1 1)\n", i);
+    for (int i = 1; i <= tasks; i++) {
+        for (int j = i + 1; j <= tasks && files > 0; j++, files--) s += sprintf(s, "(file %d %d 1 1)\n", i, j);
+    }
+    return as_text(sheet);
+}
+
+/* NULL again; the converted sheet is written at the front alone, and only if it fits. One task more than 64, one file more than 256. */
+static void converter(void) {
+    text sheet = as_text(with_work), none = {NULL, 0};
+    size_t n = strlen(converted);
+    uint8_t out[FRAMES_MAX_TEXT], painted[FRAMES_MAX_TEXT];
+    memset(painted, 7, sizeof painted);
+    memcpy(out, painted, sizeof out);
+    convert("convert, no sheet", none, NULL, 0, FRAMES_SHEET_MALFORMED, 1);
+    convert("convert, a written 0", as_text("(board (blue 1 4) (red 1 4))\n(task 1 2 2 0)\n"), out, sizeof out, FRAMES_SHEET_OUT_OF_RANGE, 2);
+    convert("convert, no buffer", sheet, NULL, 0, FRAMES_BUFFER_TOO_SHORT, n);
+    convert("convert, a byte too short", sheet, out, n - 1, FRAMES_BUFFER_TOO_SHORT, n);
+    convert("convert, 33 tasks with W", many(33, 33, 0), out, sizeof out, FRAMES_TOO_MANY_TASKS, 0);
+    convert("convert, 65 tasks", many(33, 32, 0), NULL, 0, FRAMES_TOO_MANY_TASKS, 0);
+    convert("convert, 257 files", many(24, 1, 256), out, sizeof out, FRAMES_TOO_MANY_FILES, 0);
+    convert("convert, 65 tasks and 288 files", many(33, 32, 256), out, sizeof out, FRAMES_TOO_MANY_TASKS, 0);
+    expect_that("the buffer after the converter's refusals", memcmp(out, painted, sizeof out) == 0);
+    convert("convert, a byte more", sheet, out, n + 1, FRAMES_OK, n);
+    expect_that("the converted sheet, and the bytes behind it", memcmp(out, converted, n) == 0 && memcmp(out + n, painted, sizeof out - n) == 0);
+    sheet = as_text(course);
+    convert("convert, no W", sheet, out, sizeof out, FRAMES_OK, sheet.len);
+    expect_that("a sheet without W", memcmp(out, course, sheet.len) == 0);
+}
+
+/* The same of a timetable that is stripped. */
+static void stripping(void) {
+    text sheet = as_text(with_work), table = as_text(with_added), none = {NULL, 0};
+    size_t n = strlen(stripped);
+    uint8_t out[200], painted[200];
+    uint64_t verdict[5];
+    memset(painted, 7, sizeof painted);
+    memcpy(out, painted, sizeof out);
+    strip("strip, no sheet, no paper", none, none, NULL, 0, FRAMES_SHEET_MALFORMED, 1);
+    strip("strip, no paper", sheet, none, NULL, 0, FRAMES_PAPER_MALFORMED, 1);
+    strip("strip, no buffer", sheet, table, NULL, 0, FRAMES_BUFFER_TOO_SHORT, n);
+    strip("strip, a byte too short", sheet, table, out, n - 1, FRAMES_BUFFER_TOO_SHORT, n);
+    strip("strip, 66 tasks", many(33, 33, 0), table, out, sizeof out, FRAMES_TOO_MANY_TASKS, 0);
+    strip("strip, 257 files", many(24, 1, 256), none, out, sizeof out, FRAMES_TOO_MANY_FILES, 0);
+    strip("strip, a timetable of the sheet itself", sheet, as_text(stripped), out, sizeof out, FRAMES_PAPER_NOT_DUE, 4);
+    expect_that("the buffer after refusals to strip", memcmp(out, painted, sizeof out) == 0);
+    strip("strip, a byte more", sheet, table, out, n + 1, FRAMES_OK, n);
+    expect_that("the stripped timetable, and the bytes behind it", memcmp(out, stripped, n) == 0 && memcmp(out + n, painted, sizeof out - n) == 0);
+    frames_mark(sheet.bytes, sheet.len, out, n, verdict);
+    EXPECT("the stripped timetable, marked", verdict, FRAMES_OK, 0, 8, 6, 5);
+    strip("strip, no W", as_text(course), as_text(paper), out, sizeof out, FRAMES_OK, 76);
+    expect_that("a timetable of a sheet without W", memcmp(out, paper, 76) == 0);
+}
+
+/* The sheet with the most working memory that is converted, 32 tasks and 224 files, and a timetable of the converted sheet that moves every file:
+ * each added task runs at tick 0, on processor 9 for the first 16 tasks, which run on processor 1, and the other way round for the others. */
+static char large_before[FRAMES_MAX_TEXT];
+static char large_added[FRAMES_MAX_TEXT];
+
+static void make_large_conversion(void) {
+    char *s = large_before;
+    char *p = large_added;
+    s += sprintf(s, "(board (blue 8 999999999) (red 8 999999999))\n");
+    for (int i = 1; i <= 32; i++) {
+        s += sprintf(s, "(task %d 1000000000 1000000000 1000000)\n", i);
+        p += sprintf(p, "(run %d %d 0)\n", i, i <= 16 ? 9 : 1);
+    }
+    for (int i = 1; i <= 32; i++) p += sprintf(p, "(run %d %d %lld)\n", 32 + i, i <= 16 ? 1 : 9, 1000000000LL * (i + (i <= 16 ? 0 : 1)));
+    for (int i = 1; i <= 32; i++) p += sprintf(p, "(move %d %d %lld)\n", i, 32 + i, 1000000000LL * (i + (i <= 16 ? 0 : 1)) - 1);
+    for (int i = 1; i <= 16; i++) {
+        for (int j = 17; j <= 30; j++) {
+            s += sprintf(s, "(file %d %d 1000000 1000000000)\n", i, j);
+            p += sprintf(p, "(move %d %d 17000000000)\n", 32 + i, 32 + j);
+        }
+    }
+    sprintf(p, "(claim 34000000000 241000000 226000000)\n");
+}
+
+/* The largest conversion, 64 tasks and 256 files, and its timetable stripped. They are then measured. */
+static void largest_conversion(void) {
+    static const char claim[] = "\n(claim 34000000000 225000000 225000000)\n";
+    static uint8_t sheet[FRAMES_MAX_TEXT], table[FRAMES_MAX_TEXT];
+    uint64_t answer[2], verdict[5];
+    make_large_conversion();
+    text before = as_text(large_before), added = as_text(large_added);
+    frames_convert(before.bytes, before.len, sheet, sizeof sheet, answer);
+    size_t lines = 0, length = answer[1];
+    for (size_t i = 0; i < length; i++) lines += sheet[i] == '\n';
+    expect_that("the largest conversion", answer[0] == FRAMES_OK && lines == 1 + 64 + 256);
+    frames_mark(sheet, length, added.bytes, added.len, verdict);
+    EXPECT("the timetable of the largest conversion", verdict, FRAMES_OK, 0, 34000000000, 241000000, 226000000);
+    frames_strip(before.bytes, before.len, added.bytes, added.len, table, sizeof table, answer);
+    length = answer[1];
+    expect_that("the timetable of the largest conversion, stripped",
+                answer[0] == FRAMES_OK && memcmp(table + length - strlen(claim), claim, strlen(claim)) == 0);
+    frames_mark(before.bytes, before.len, table, length, verdict);
+    EXPECT("what is left, marked", verdict, FRAMES_OK, 0, 34000000000, 225000000, 225000000);
+}
+
 /* The calls that are measured. Each keeps its answer in `last`. */
 static uint64_t last[6];
 static uint8_t room[FRAMES_MAX_TEXT];
@@ -269,6 +408,20 @@ static void *call_simulate(void *unused) {
     (void)unused;
     text s = as_text(large), p = as_text(large_paper);
     frames_simulate(s.bytes, s.len, p.bytes, p.len, 0, 1024, last, running, contents);
+    return NULL;
+}
+
+static void *call_convert(void *unused) {
+    (void)unused;
+    text s = as_text(large_before);
+    frames_convert(s.bytes, s.len, room, sizeof room, last);
+    return NULL;
+}
+
+static void *call_strip(void *unused) {
+    (void)unused;
+    text s = as_text(large_before), p = as_text(large_added);
+    frames_strip(s.bytes, s.len, p.bytes, p.len, room, sizeof room, last);
     return NULL;
 }
 
@@ -311,7 +464,8 @@ static void stacks(void) {
         measured_planner = planners[i].call;
         printf(", %s %zu", planners[i].name, measured(planners[i].name, call_planner));
     }
-    printf(", simulator %zu\n", measured("frames_simulate", call_simulate));
+    printf(", simulator %zu", measured("frames_simulate", call_simulate));
+    printf(", converter %zu, stripping %zu\n", measured("frames_convert", call_convert), measured("frames_strip", call_strip));
 }
 
 /* Calls on several threads at once give what each gives alone. */
@@ -328,6 +482,10 @@ static void *many_calls(void *unused) {
         simulated("the simulator beside others", &s, sheet, table, i % 3, 3 - i % 3);
         EXPECT("the simulator beside others", s.result, FRAMES_OK, 0, 1, 0, 3, 3);
         expect_state("the simulator beside others", &s, 2, 0, 1, 2);
+        convert("the converter beside others", as_text(with_work), out, sizeof out, FRAMES_OK, strlen(converted));
+        expect_that("the converter beside others", memcmp(out, converted, strlen(converted)) == 0);
+        strip("stripping beside others", as_text(with_work), as_text(with_added), out, sizeof out, FRAMES_OK, strlen(stripped));
+        expect_that("stripping beside others", memcmp(out, stripped, strlen(stripped)) == 0);
     }
     return unused;
 }
@@ -349,10 +507,13 @@ int main(void) {
     simulator();
     wide_numbers();
     working_memory();
+    converter();
+    stripping();
     largest();
+    largest_conversion();
     stacks();
     threads();
-    puts("calls from C: NULL, short buffers, plans over a limit, wide numbers, working memory, the simulator's arrays, stack and threads "
-         "as include/frames.h says");
+    puts("calls from C: NULL, short buffers, plans over a limit, wide numbers, working memory, the simulator's arrays, the converter, stack "
+         "and threads as include/frames.h says");
     return 0;
 }

@@ -478,7 +478,7 @@ fn last_start(sheet: &Sheet, t: &Table) -> i64 {
 }
 
 /// A timetable with each start so many ticks later.
-fn put_off(mut t: Table, by: i64) -> Table {
+pub fn put_off(mut t: Table, by: i64) -> Table {
     t.runs = t
         .runs
         .iter()

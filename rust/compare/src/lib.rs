@@ -1,6 +1,10 @@
-//! An independent implementation of document 01 with Orders 1 to 6, for tests, and texts by chance to compare it on.
+//! An independent implementation of document 01 with Orders 1 to 7, for tests, and texts by chance to compare it on.
 
 pub mod colours;
+pub mod conversion;
+pub mod conversion_edges;
+pub mod conversion_papers;
+pub mod converting;
 pub mod edges;
 pub mod finer;
 pub mod generate;

@@ -50,7 +50,7 @@ impl Answered {
 }
 
 /// What a buffer has in it before a call.
-fn pattern(room: usize) -> Vec<u8> {
+pub fn pattern(room: usize) -> Vec<u8> {
     (0..room).map(|i| (i * 7 + 13) as u8).collect()
 }
 

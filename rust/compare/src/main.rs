@@ -1,9 +1,10 @@
-//! Compares the proved library with an implementation of its own of document 01 with Orders 1 to 6, on sound and damaged texts from
+//! Compares the proved library with an implementation of its own of document 01 with Orders 1 to 7, on sound and damaged texts from
 //! a fixed seed, and short timetables also with what the memories hold at each tick. All that is marked is simulated too. Prints how often
 //! each answer was reached, what was answered to timetables with relays, how often each of the four cases of maker and reader was met,
 //! what the simulator answered, what the plain planners did beside the memory-aware ones, which marks are others than by the limits
-//! before Order 5, how often the same job was planned in finer ticks, and what working memory led to. Ends with an error at the first
-//! difference, where an answer or a case was never reached, or where relays were marked as the rules do not allow.
+//! before Order 5, how often the same job was planned in finer ticks, what working memory led to, and what the converter answered. Ends
+//! with an error at the first difference, where an answer or a case was never reached, or where relays were marked as the rules do not
+//! allow.
 
 use compare::generate::{self, Random, WORK_FAULTS};
 use compare::library::{self, Answered};
@@ -11,7 +12,7 @@ use compare::reference::{
     self, Heuristic, Memory, Planned, Planner, Sheet, Table, MAX_TEXT, PLANNERS,
 };
 use compare::relays::{self, has_relays};
-use compare::{colours, finer, plain, stepping, widths, work_promises};
+use compare::{colours, converting, finer, plain, stepping, widths, work_promises};
 use std::collections::{BTreeMap, BTreeSet};
 use Heuristic::{Heft, MinMin};
 use Memory::{Aware, Plain};
@@ -31,6 +32,7 @@ struct Tally {
     widths: widths::Counts,
     finer: finer::Counts,
     work: work_promises::Counts,
+    converter: converting::Counts,
     cases: u64,
 }
 
@@ -77,6 +79,7 @@ impl Tally {
         same(self.simulator.marked(sheet, paper, got), sheet, paper);
         same(self.widths.marked(sheet, paper, got), sheet, paper);
         same(self.work.marked(sheet, paper, got), sheet, paper);
+        same(self.converter.marked(sheet, paper, got), sheet, paper);
         got
     }
 
@@ -112,8 +115,9 @@ impl Tally {
         (got, mark)
     }
 
-    /// All planners on a sheet; the last heuristic's timetable: the memory-aware one's where it is not stuck.
+    /// The converter, and all planners, on a sheet; the last heuristic's timetable: the memory-aware one's where it is not stuck.
     fn planners(&mut self, r: &mut Random, sheet: &[u8]) -> Option<Vec<u8>> {
+        self.convert(sheet);
         let mut paper = None;
         for heuristic in [Heft, MinMin] {
             let (plain, plain_mark) = self.planner(r, heuristic.with(Plain), sheet);
@@ -130,6 +134,11 @@ impl Tally {
             paper = written.map(|a| a.text().to_vec()).or(paper);
         }
         paper
+    }
+
+    /// The converter on a sheet, and what is stripped of timetables of the converted one.
+    fn convert(&mut self, sheet: &[u8]) {
+        same(self.converter.sheet(sheet), sheet, b"");
     }
 
     fn print(&self, name: &str, all: &Seen, due: &[u64]) -> bool {
@@ -227,6 +236,7 @@ fn work_fault(t: &mut Tally, r: &mut Random, read: &Sheet, number: u64) {
     let (sheet, place) = generate::with_work_fault(r, read, WORK_FAULTS[kind].2);
     let [refused, at, ..] = t.mark(&sheet, PAPER);
     same(t.work.fault(kind, place, (refused, at)), &sheet, PAPER);
+    t.convert(&sheet);
     if r.one_in(4) {
         for planner in PLANNERS {
             let answer = t.planner(r, planner, &sheet).0.answer;
@@ -380,6 +390,7 @@ fn finer_ticks(t: &mut Tally, rounds: u64) {
     }
     for sheet in generate::each_widened(WITH_WORK) {
         t.mark(&sheet, PAPER);
+        t.convert(&sheet);
     }
     for paper in generate::each_widened(PAPER) {
         t.mark(COURSE, &paper);
@@ -399,7 +410,8 @@ fn finer_ticks(t: &mut Tally, rounds: u64) {
 fn by_hand(t: &mut Tally) {
     let traces = t.simulator.by_hand();
     let plans = traces.and(t.plain.by_hand());
-    if let Err(difference) = plans.and(t.widths.by_hand()).and(t.work.by_hand()) {
+    let marks = plans.and(t.widths.by_hand()).and(t.work.by_hand());
+    if let Err(difference) = marks.and(t.converter.by_hand()) {
         panic!("{difference}");
     }
     for (sheet, paper) in [generate::all_moved(), generate::all_apart()] {
@@ -447,6 +459,7 @@ fn main() {
     t.widths.print();
     t.finer.print();
     t.work.print();
+    t.converter.print();
     println!("{} cases, no difference", t.cases);
     let mut faults = [t.relays.faults(), t.colours.faults()].concat();
     faults.extend(t.simulator.faults());
@@ -454,6 +467,7 @@ fn main() {
     faults.extend(t.widths.faults());
     faults.extend(t.finer.faults());
     faults.extend(t.work.faults());
+    faults.extend(t.converter.faults());
     if !ok {
         faults.push("an answer was never reached".to_string());
     }

@@ -92,19 +92,19 @@ impl Bare {
     }
 }
 
-fn count_of(numbers: &BTreeMap<u64, u64>, number: u64) -> u64 {
+pub fn count_of(numbers: &BTreeMap<u64, u64>, number: u64) -> u64 {
     numbers.get(&number).copied().unwrap_or(0)
 }
 
-fn listed(numbers: &BTreeMap<u64, u64>) -> String {
+pub fn listed(numbers: &BTreeMap<u64, u64>) -> String {
     let counts = numbers.iter().map(|(number, n)| format!("{number}: {n}"));
     counts.collect::<Vec<_>>().join(", ")
 }
 
 /// What was counted, in words.
-type Rows<const N: usize> = [(&'static str, u64); N];
+pub type Rows<const N: usize> = [(&'static str, u64); N];
 
-fn in_words<const N: usize>(rows: Rows<N>) -> String {
+pub fn in_words<const N: usize>(rows: Rows<N>) -> String {
     rows.map(|(name, n)| format!("{name}: {n}")).join(", ")
 }
 

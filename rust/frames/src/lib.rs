@@ -1,7 +1,8 @@
-//! Plans, marks and simulates schedules for a board with two memories, by the proved library `frames`.
+//! Plans, marks and simulates schedules for a board with two memories, and converts board sheets for readers that lack working memory (W),
+//! by the proved library `frames`.
 //!
-//! A board sheet and a timetable are bytes. Any bytes may be handed in: the marker and the planners end in success or in one [`Refusal`],
-//! which has a number and a place and prints as a sentence; the simulator answers a [`Progress`].
+//! A board sheet and a timetable are bytes. Any bytes may be handed in: the marker, the planners and the converter end in success or in one
+//! [`Refusal`], which has a number and a place and prints as a sentence; the simulator answers a [`Progress`].
 //!
 //! What include/frames.h asks of a caller holds of every call here: slices and mutable slices do not overlap, an empty slice is a pointer
 //! with length 0, and the results are arrays of this crate. Calls use no heap in the library and no global data, so they may run on
@@ -16,9 +17,11 @@
 //! assert_eq!(mark(sheet, &planned.timetable), Verdict::Accepted { span: 2, blue_peak: 0, red_peak: 0 });
 //! ```
 
+mod conversion;
 mod refusal;
 mod simulation;
 
+pub use conversion::{convert, convert_into, strip, strip_into, Written};
 pub use refusal::Refusal;
 pub use simulation::{simulate, Progress, Simulation};
 
@@ -223,7 +226,7 @@ mod tests {
     pub const PAPER: &[u8] =
         b"(run 1 2 0)\n(run 2 1 3)\n(run 3 1 6)\n(move 1 2 2)\n(move 1 3 4)\n(claim 8 5 5)\n";
 
-    const LISTED: [u64; 14] = [1, 2, 3, 4, 11, 12, 13, 14, 15, 16, 17, 18, 21, 31];
+    const LISTED: [u64; 16] = [1, 2, 3, 4, 11, 12, 13, 14, 15, 16, 17, 18, 21, 31, 41, 42];
 
     fn answer(number: u64, place: u64) -> Answer {
         Answer {

@@ -2,7 +2,7 @@
 
 use std::fmt;
 
-/// Why a text was refused, a timetable is not valid, or a planner could not finish.
+/// Why a text was refused, a timetable is not valid, or a planner or the converter could not finish.
 #[derive(Clone, Copy, Debug, PartialEq, Eq)]
 pub enum Refusal {
     /// 1
@@ -33,6 +33,10 @@ pub enum Refusal {
     Stuck { placed: u64 },
     /// 31
     BufferTooShort { needed: u64 },
+    /// 41
+    TooManyTasks,
+    /// 42
+    TooManyFiles,
 }
 
 use Refusal::*;
@@ -55,6 +59,8 @@ impl Refusal {
             18 => ClaimUntrue,
             21 => Stuck { placed: place },
             31 => BufferTooShort { needed: place },
+            41 => TooManyTasks,
+            42 => TooManyFiles,
             _ => return None,
         })
     }
@@ -76,6 +82,8 @@ impl Refusal {
             ClaimUntrue => (18, 0),
             Stuck { placed } => (21, placed),
             BufferTooShort { needed } => (31, needed),
+            TooManyTasks => (41, 0),
+            TooManyFiles => (42, 0),
         }
     }
 }
@@ -97,6 +105,8 @@ impl fmt::Display for Refusal {
             ClaimUntrue => write!(f, "the claim is untrue"),
             Stuck { placed } => write!(f, "the planner is stuck with {placed} tasks placed"),
             BufferTooShort { needed } => write!(f, "the output buffer is too short: {needed} bytes are needed"),
+            TooManyTasks => write!(f, "the converted sheet would have over 64 tasks"),
+            TooManyFiles => write!(f, "the converted sheet would have over 256 files"),
         }
     }
 }
@@ -114,13 +124,13 @@ mod tests {
             if let Some(refusal) = Refusal::from_numbers(number, 5) {
                 listed += 1;
                 let place = match number {
-                    1 | 11 | 18 => 0,
+                    1 | 11 | 18 | 41 | 42 => 0,
                     _ => 5,
                 };
                 assert_eq!(refusal.numbers(), (number, place));
             }
         }
-        assert_eq!(listed, 14);
+        assert_eq!(listed, 16);
         assert_eq!(Refusal::from_numbers(0, 0), None);
         assert_eq!(Refusal::from_numbers(u64::MAX, 0), None);
     }
