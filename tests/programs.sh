@@ -64,6 +64,27 @@ together=$(printf '(%s)\n' 'run 1 1 0' 'run 2 2 0' 'claim 4 6 0')$'\n'
 printf '%s' "$together" > together.paper
 sed 's/ 3)/ 0)/' work.sheet > zero_work.sheet
 sed 's/ 3)/ 6)/' work.sheet > much_work.sheet
+# the course example with W for its first and its last task, its converted sheet, a timetable of that, and what is left of it
+sed 's/(task 1 4 2)/(task 1 4 2 1)/; s/(task 3 2 6)/(task 3 2 6 1)/' sheet > course.w
+wide=$(printf '(%s)\n' 'board (blue 1 6) (red 1 6)' 'task 1 0 0' 'task 2 0 0' 'task 3 4 2' 'task 4 3 5' 'task 5 2 6' \
+    'file 1 3 1 1' 'file 2 5 1 1' 'file 3 4 2 1' 'file 3 5 3 2')$'\n'
+printf '(%s)\n' 'run 1 2 0' 'run 2 2 2' 'run 3 2 0' 'run 4 1 3' 'run 5 1 6' 'move 2 5 5' 'move 3 4 2' 'move 3 5 4' 'claim 8 6 6' > wide.paper
+left=$(printf '(%s)\n' 'run 1 2 0' 'run 2 1 3' 'run 3 1 6' 'move 1 2 2' 'move 1 3 4' 'claim 8 5 6')$'\n'
+# large TASKS WORKS FILES: a board sheet of so many tasks, so many of them with W, and so many files
+large() {
+    awk -v tasks="$1" -v works="$2" -v files="$3" 'BEGIN {
+        print "(board (blue 1 9) (red 1 9))"
+        for (i = 1; i <= tasks; i++) print "(task " i " 1 1" (i <= works ? " 1)" : ")")
+        for (i = 1; i < tasks; i++)
+            for (j = i + 1; j <= tasks; j++)
+                if (made++ < files) print "(file " i " " j " 1 1)"
+    }'
+}
+large 32 32 0 > 64_tasks.sheet
+large 33 33 0 > 66_tasks.sheet
+large 24 1 255 > 256_files.sheet
+large 24 1 256 > 257_files.sheet
+large 64 1 256 > both.sheet
 sed '2s/.*//' paper > empty_line.paper
 { head -n 1 paper; printf '(run\t2 1\\ 3)\033[31m\377\n'; tail -n +3 paper; } > control.paper
 escaped='(run\x092 1\\ 3)\x1b[31m\xff'
@@ -240,5 +261,74 @@ expect 'closed standard output for a trace' 'framewatch sheet paper >&-' '' $'fr
 expect 'a trace, no argument' 'framewatch' '' "$usage"
 expect 'a trace, one argument' 'framewatch sheet' '' "$usage"
 expect 'a trace, five arguments' 'framewatch sheet paper 1 2 3' '' "$usage"
+
+# ---- frameconvert
+usage='usage: frameconvert < SHEET'$'\n'
+expect 'a converted sheet' 'frameconvert < course.w' "$wide" ''
+expect 'a converted sheet that comes in pieces' '{ head -c 50 course.w; sleep 0.2; tail -c +51 course.w; } | frameconvert' "$wide" ''
+expect 'a converted sheet, converted' 'frameconvert < course.w | frameconvert' "$wide" ''
+expect 'a sheet without W, byte for byte' 'frameconvert < sheet | cmp - sheet' '' ''
+expect 'another, with a relay' 'frameconvert < relay.sheet | cmp - relay.sheet' '' ''
+expect 'a refused sheet, converted' 'frameconvert < bad.sheet' $'(refused 3 3)\n' ''
+expect 'working memory written as 0, converted' 'frameconvert < zero_work.sheet' $'(refused 3 2)\n' ''
+expect '66 tasks would result' 'frameconvert < 66_tasks.sheet' $'(refused 41 0)\n' ''
+expect '64 tasks result' 'frameconvert < 64_tasks.sheet | grep -c "^(task "' $'64\n' ''
+expect '257 files would result' 'frameconvert < 257_files.sheet' $'(refused 42 0)\n' ''
+expect '256 files result' 'frameconvert < 256_files.sheet | grep -c "^(file "' $'256\n' ''
+expect '65 tasks and 257 files would result' 'frameconvert < both.sheet' $'(refused 41 0)\n' ''
+expect 'empty input to convert' 'frameconvert < /dev/null' $'(refused 2 1)\n' ''
+expect 'the longest sheet that is read, to convert' 'frameconvert < 32768.sheet' $'(refused 4 7)\n' ''
+expect 'a sheet of 32769 bytes to convert' 'frameconvert < 32769.sheet' $'(refused 1 0)\n' ''
+expect 'a sheet of 100000 bytes to convert' 'frameconvert < 100000.sheet' $'(refused 1 0)\n' ''
+expect 'a sheet of 40000 bytes in pieces to convert' \
+    '{ head -c 20000 40000.sheet; sleep 0.2; tail -c +20001 40000.sheet; } | frameconvert' $'(refused 1 0)\n' ''
+expect 'input without end to convert' 'frameconvert < /dev/zero' $'(refused 1 0)\n' ''
+expect 'a directory to convert' 'frameconvert < .' '' $'frameconvert: standard input: Is a directory\n'
+expect 'closed standard input to convert' 'frameconvert <&-' '' $'frameconvert: standard input: Bad file descriptor\n'
+expect 'no room for the converted sheet' 'frameconvert < course.w > /dev/full' '' $'frameconvert: standard output: No space left on device\n'
+expect 'no room for the refusal to convert' 'frameconvert < /dev/null > /dev/full' '' $'frameconvert: standard output: No space left on device\n'
+expect 'closed standard output for a converted sheet' 'frameconvert < course.w >&-' '' $'frameconvert: standard output: Bad file descriptor\n'
+expect 'converting, an argument' 'frameconvert course.w < course.w' '' "$usage"
+expect 'converting, an empty argument' 'frameconvert "" < course.w' '' "$usage"
+
+# ---- framestrip: each refusal of a timetable by a change of wide.paper
+usage='usage: framestrip SHEET PAPER'$'\n'
+# changed SED: what framestrip makes of wide.paper, changed so
+changed() { printf "framestrip course.w <(sed '%s' wide.paper)" "$1"; }
+expect 'a stripped timetable' 'framestrip course.w wide.paper' "$left" ''
+expect 'a stripped timetable is accepted' 'framemark course.w <(framestrip course.w wide.paper)' $'(accepted 8 5 6)\n' ''
+expect 'converted, planned and stripped' 'framestrip work.sheet <(frameconvert < work.sheet | frameplan)' "$waits" ''
+expect 'a timetable of a sheet without W' 'framestrip sheet paper | cmp - paper' '' ''
+expect 'a timetable that comes in pieces' 'framestrip course.w <(head -c 30 wide.paper; sleep 0.2; tail -c +31 wide.paper)' "$left" ''
+expect 'closed standard input, which framestrip does not read' 'framestrip course.w wide.paper <&-' "$left" ''
+expect 'a sheet of 40000 bytes to strip for' 'framestrip 40000.sheet wide.paper' $'(refused 1 0)\n' ''
+expect 'an empty sheet to strip for' 'framestrip /dev/null wide.paper' $'(refused 2 1)\n' ''
+expect 'a refused sheet to strip for' 'framestrip bad.sheet wide.paper' $'(refused 3 3)\n' ''
+expect 'a line out of order to strip for' 'framestrip 32768.sheet wide.paper' $'(refused 4 7)\n' ''
+expect '41 before the timetable is read' 'framestrip 66_tasks.sheet 100000.paper' $'(refused 41 0)\n' ''
+expect '42 before the timetable is read' 'framestrip 257_files.sheet 100000.paper' $'(refused 42 0)\n' ''
+expect '41 before 42' 'framestrip both.sheet wide.paper' $'(refused 41 0)\n' ''
+expect 'a timetable of 32769 bytes to strip' 'framestrip course.w 32769.paper' $'(refused 11 0)\n' ''
+expect 'a timetable of 100000 bytes to strip' 'framestrip course.w 100000.paper' $'(refused 11 0)\n' ''
+expect 'an empty timetable to strip' 'framestrip course.w /dev/null' $'(refused 12 1)\n' ''
+expect 'a leading zero' "$(changed 's/(run 2 2/(run 2 02/')" $'(refused 12 2)\n' ''
+expect 'a processor out of range' "$(changed 's/(run 2 2/(run 2 3/')" $'(refused 13 2)\n' ''
+expect 'a timetable of the original' 'framestrip course.w paper' $'(refused 14 4)\n' ''
+expect 'the move of an added file left out' "$(changed '/(move 2 5/d')" $'(refused 14 6)\n' ''
+expect 'an added task inside a run' "$(changed 's/(run 2 2 2/(run 2 2 1/')" $'(refused 15 2)\n' ''
+expect 'an added file too late' "$(changed 's/(move 2 5 5/(move 2 5 6/')" $'(refused 16 5)\n' ''
+expect 'an added file over the limit' "$(changed 's/(run 2 2 2/(run 2 2 0/')" $'(refused 17 0)\n' ''
+expect 'the claim of what is left' "$(changed 's/(claim 8 6/(claim 8 5/')" $'(refused 18 0)\n' ''
+expect 'a missing sheet to strip for' 'framestrip missing wide.paper' '' $'framestrip: missing: No such file or directory\n'
+expect 'a missing timetable to strip' 'framestrip course.w missing' '' $'framestrip: missing: No such file or directory\n'
+expect 'a directory as sheet to strip for' 'framestrip . wide.paper' '' $'framestrip: .: Is a directory\n'
+expect 'a directory as timetable to strip' 'framestrip course.w folder' '' $'framestrip: folder: Is a directory\n'
+expect 'stripping, a name longer than the buffer' "framestrip course.w $long" '' $'framestrip: argument 2: File name too long\n'
+expect 'no room for a stripped timetable' 'framestrip course.w wide.paper > /dev/full' '' $'framestrip: standard output: No space left on device\n'
+expect 'no room for the refusal to strip' 'framestrip course.w paper > /dev/full' '' $'framestrip: standard output: No space left on device\n'
+expect 'closed standard output for a stripped timetable' 'framestrip course.w wide.paper >&-' '' $'framestrip: standard output: Bad file descriptor\n'
+expect 'stripping, no argument' 'framestrip' '' "$usage"
+expect 'stripping, one argument' 'framestrip course.w' '' "$usage"
+expect 'stripping, three arguments' 'framestrip course.w wide.paper wide.paper' '' "$usage"
 
 echo "programs: $cases cases as expected"

@@ -56,25 +56,48 @@ pub fn print_numbers<'a>(name: &'a [u8], planner: &'a [u8], a: Answer) {
     io::write_all(STDOUT_FILENO, b"\n");
 }
 
-// The timetable that a planner wrote, or its refusal.
-pub fn print_answer(a: Answer, out: &[u8]) -> bool
-    requires { ⌜ LongEnough a (now out) ⌝ }
+// The text that a call wrote at the front of a buffer, by the number and the place of its answer; none after a refusal.
+pub fn written_text(number: u64, place: u64, out: &[u8]) -> &[u8]
+    requires { ⌜ LongEnough number place (now out) ⌝ }
 {
-    if a.number != 0 {
-        return print_refusal(a.number, a.place);
+    if number != 0 {
+        return &out[..0];
     }
-    let n = a.place as usize;
-    io::write_all(STDOUT_FILENO, &out[..n])
+    let n = place as usize;
+    &out[..n]
 }
 
-// How the timetable is marked that an answer says was written. Nothing is printed for a refusal.
-pub fn print_plan_mark<'a>(sheet: &'a [u8], a: Answer, out: &'a [u8]) -> bool
-    requires { ⌜ LongEnough a (now out) ⌝ }
+// That text, or the refusal.
+pub fn print_text(number: u64, place: u64, out: &[u8]) -> bool
+    requires { ⌜ LongEnough number place (now out) ⌝ }
 {
-    if a.number != 0 {
+    if number != 0 {
+        return print_refusal(number, place);
+    }
+    io::write_all(STDOUT_FILENO, written_text(number, place, out))
+}
+
+// The timetable that a planner wrote, or its refusal.
+pub fn print_answer(a: Answer, out: &[u8]) -> bool
+    requires { ⌜ LongEnough (a .number) (a .place) (now out) ⌝ }
+{
+    print_text(a.number, a.place, out)
+}
+
+// How a timetable is marked that a call wrote. Nothing is printed after a refusal.
+pub fn print_text_mark<'a>(sheet: &'a [u8], number: u64, place: u64, out: &'a [u8]) -> bool
+    requires { ⌜ LongEnough number place (now out) ⌝ }
+{
+    if number != 0 {
         return true;
     }
-    let n = a.place as usize;
-    let v = frames::mark(sheet, &out[..n]);
+    let v = frames::mark(sheet, written_text(number, place, out));
     io::write_all(STDOUT_FILENO, b"marked: ") && print_verdict(v)
+}
+
+// How the timetable is marked that a planner wrote. Nothing is printed for a refusal.
+pub fn print_plan_mark<'a>(sheet: &'a [u8], a: Answer, out: &'a [u8]) -> bool
+    requires { ⌜ LongEnough (a .number) (a .place) (now out) ⌝ }
+{
+    print_text_mark(sheet, a.number, a.place, out)
 }

@@ -20,7 +20,7 @@ pub enum Planner {
 pub fn plan(planner: Planner, sheet: &[u8], out: &mut [u8]) -> Answer
     requires { ⌜ maxText ≤ length (now out) ⌝ }
     ensures { λ r. ⌜ asAnswer r (now (out .exit)) ≡ rules-plan (asPlanner planner) (now (sheet .entry)) (now (out .entry)) ⌝ }
-    ensures { λ r. ⌜ LongEnough r (now (out .exit)) ⌝ }
+    ensures { λ r. ⌜ LongEnough (r .number) (r .place) (now (out .exit)) ⌝ }
 {
     match planner {
         Planner::MemHeft => frames::mem_heft(sheet, out),
