@@ -1,6 +1,8 @@
 //! How long the planners, the marker and the simulator take on sheets of 8, 32 and 64 tasks, the last also with every time a million times
-//! as long and with W on every task, beside the independent implementation: the median of many calls, in one run on one machine.
+//! as long and with W on every task, and the converter and the stripper on the largest conversion, beside the independent implementation:
+//! the median of many calls, in one run on one machine.
 
+use compare::conversion;
 use compare::generate::{all_apart, all_moved, all_work, finer, large_sheet, Random};
 use compare::library::named;
 use compare::reference::{self, Planner, PLANNERS};
@@ -82,6 +84,31 @@ impl Row {
         self.print(what, ours, theirs);
     }
 
+    /// The converter on a sheet that it can convert; the converted sheet.
+    fn converter(&self, what: &str, sheet: &[u8]) -> Vec<u8> {
+        let mut out = vec![0u8; reference::MAX_TEXT];
+        let answer = frames::convert_into(sheet, &mut out);
+        assert_eq!(answer.number, 0, "the sheet is converted");
+        let ours = median(|| {
+            frames::convert_into(sheet, &mut out);
+        });
+        let theirs = median(|| drop(conversion::convert(sheet)));
+        self.print(what, ours, theirs);
+        out.truncate(answer.place as usize);
+        out
+    }
+
+    /// The stripper on an accepted timetable of the converted sheet.
+    fn stripper(&self, what: &str, sheet: &[u8], paper: &[u8]) {
+        let mut out = vec![0u8; reference::MAX_TEXT];
+        let ours = median(|| {
+            let answer = frames::strip_into(sheet, paper, &mut out);
+            assert_eq!(answer.number, 0, "the timetable is stripped");
+        });
+        let theirs = median(|| drop(conversion::strip(sheet, paper)));
+        self.print(what, ours, theirs);
+    }
+
     /// The simulator on a timetable of 640 ticks, in as many calls of one step; the median of 5 such walks.
     fn step_by_step(&self, what: &str, sheet: &[u8], paper: &[u8]) {
         let ours = median_of(5, || {
@@ -92,6 +119,23 @@ impl Row {
         });
         self.print(what, ours, theirs);
     }
+}
+
+/// The largest conversion, 32 tasks with W each and 224 files, which become 64 and 256: the converter, a planner and the marker on the
+/// converted sheet, and the stripper.
+fn conversion_rows(text: &[u8]) {
+    let row = Row {
+        tasks: 32,
+        files: 224,
+    };
+    let lines = text.split_inclusive(|&b| b == b'\n');
+    let sheet = lines.take(1 + row.tasks + row.files).collect::<Vec<_>>();
+    let sheet = sheet.concat();
+    let converted = row.converter("converter", &sheet);
+    let (name, planner) = (NAMES[3], PLANNERS[3]);
+    let paper = row.planner(&format!("{name}, converted"), planner, &converted);
+    row.marker("marker, converted", &converted, &paper);
+    row.stripper("stripper", &sheet, &paper);
 }
 
 /// 640 steps; a step is told the steps made, and tells them.
@@ -134,6 +178,7 @@ fn main() {
     }
     rows(&finer(&sheets[2], 1_000_000), ", times × 1000000");
     rows(&all_work(&sheets[2], 300), ", W on every task");
+    conversion_rows(&all_work(&sheets[1], 300));
     let largest = Row {
         tasks: 64,
         files: 256,
