@@ -14,7 +14,7 @@ use Rattle.rules.specs.Limits.{ticks}
 use Rattle.rules.specs.Model.{Colour, blue, red, sameColour, Instance, taskCount, fileCount, workAt, fileAt, sizeAt, isPlaced, Schedule}
 use Rattle.rules.specs.Model.{runAt, startAt, moveAt, colourOf, finishAt, releaseOf, makerRun, readerRun, moved, moveEnd}
 use Rattle.rules.specs.Residency.{during, never, closedHold, covers, filesHeld, workHeld, held, isHeld, isWorkHeld, workBy}
-use Rattle.rules.specs.Validity.{Claim, ShareInstant, OnTime, Greatest, Apart, AllOnTime, WithinLimits, Valid}
+use Rattle.rules.specs.Validity.{Complete, Claim, ShareInstant, OnTime, Greatest, Apart, AllOnTime, WithinLimits, Valid}
 use Rattle.rules.specs.ScheduleText.{processorNumbers}
 use Rattle.rules.specs.Promises.{In, WellFormed, Spellable}
 use Rattle.rules.specs.Conversion.{hasWork, addedCount, servedAt, converted, extended}
@@ -23,7 +23,7 @@ use Rattle.rules.proofs.CountLaws.{sum-cong, length-listBelow, getD-lis
 use Rattle.rules.proofs.WhereLaws.{where-sum}
 use Rattle.rules.proofs.HoldLaws.{hold-closed}
 use Rattle.rules.proofs.WorkLaws.{filesAloneLaw}
-use Rattle.rules.proofs.CompleteLaws.{Complete, spellable-complete, maker-placed, reader-placed}
+use Rattle.rules.proofs.CompleteLaws.{spellable-complete, maker-placed, reader-placed}
 use Rattle.rules.proofs.AppendLaws.{sum-append}
 use Rattle.rules.proofs.InsideLaws.{Inside, moved-same, finish-later, release-later, onTime-there, share-here, held-later}
 use Rattle.rules.proofs.ConversionLaws.{tasks-converted, files-converted, time-old, time-added, file-added, file-old, blues-same, limit-same}

@@ -6,7 +6,7 @@ use native.Mathlib.Omega.{arith}
 use Rattle.rules.specs.Model.{Colour, Instance, limitOf, taskCount, NoWork, fileAt, fileCount, sizeAt, isPlaced, Schedule, runAt, colourOf, finishOf, releaseOf}
 use Rattle.rules.specs.Model.{startAt, finishAt, readerRun}
 use Rattle.rules.specs.Residency.{covers, holdBy, holdOf, filesHeld, held}
-use Rattle.rules.specs.Validity.{Claim, ShareInstant, Apart, WithinLimits, Greatest, Valid, Shares, OverLimit}
+use Rattle.rules.specs.Validity.{Complete, Claim, ShareInstant, Apart, WithinLimits, Greatest, Valid, Shares, OverLimit}
 use Rattle.rules.specs.Promises.{WellFormed}
 use Rattle.rules.specs.FormerRules.{FormerShareInstant, formerHold, formerHeld, FormerShares, FormerOver, FormerApart, FormerWithin, FormerValid}
 use Rattle.rules.specs.FormerRules.{InstantLaw, RunsTakeTime, SheetTakesTime, FormerHeldLaw, FormerFreeLaw, FormerValidLaw, FormerPlaceLaw}
@@ -14,7 +14,7 @@ use Rattle.rules.proofs.Tests.{split}
 use Rattle.rules.proofs.CountLaws.{sum-cong}
 use Rattle.rules.proofs.ResidencyLaws.{freeFromLaw}
 use Rattle.rules.proofs.WorkLaws.{filesAloneLaw}
-use Rattle.rules.proofs.CompleteLaws.{Complete, spellable-complete}
+use Rattle.rules.proofs.CompleteLaws.{spellable-complete}
 use Rattle.rules.proofs.PlaceLaws.{first-same, placeLaw}
 
 pub instantLaw : InstantLaw

@@ -8,12 +8,12 @@ use lib.Dec.{leb, ltb}
 use borrow.Author.Tests.{leb-true, ltb-true, leb-false, ltb-false, le-leb, lt-leb, lt-ltb, le-ltb}
 use Rattle.rules.specs.Model.{Colour, sameColour, File, Instance, taskCount, fileCount, taskAt, workAt, fileAt, sizeAt, moveTimeAt, timeOn, isPlaced, Schedule, runAt, startAt, moveAt, colourOf, finishAt, releaseOf, makerRun, readerRun, moved, madeAt, moveEnd}
 use Rattle.rules.specs.Residency.{during, never, closedHold, covers, isHeld, isWorkHeld, workBy}
-use Rattle.rules.specs.Validity.{ShareInstant, OnTime}
+use Rattle.rules.specs.Validity.{Complete, ShareInstant, OnTime}
 use Rattle.rules.specs.Promises.{Before, byMaker, byReader, WellFormed}
 use Rattle.rules.specs.Conversion.{shiftedBy}
 use Rattle.rules.proofs.Tests.{split}
 use Rattle.rules.proofs.HoldLaws.{hold-closed}
-use Rattle.rules.proofs.CompleteLaws.{Complete, maker-placed, reader-placed}
+use Rattle.rules.proofs.CompleteLaws.{maker-placed, reader-placed}
 
 -- ---- tests of numbers that are all d later
 

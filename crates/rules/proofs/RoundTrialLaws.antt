@@ -7,13 +7,13 @@ use mathlib.Core.Path.{_≡_, refl, sym, ap, _∙_}
 use native.Mathlib.Omega.{arith}
 use lib.Dec.{leb, ltb, eqb}
 use borrow.Author.Tests.{leb-true, ltb-true, eqb-true, le-leb, lt-ltb, eq-eqb}
-use Rattle.rules.specs.Count.{sumBelow}
+use Rattle.rules.specs.Count.{sumBelow, sumOver}
 use Rattle.rules.specs.Model.{blue, red, Colour, Instance, taskCount}
 use Rattle.rules.specs.Scheduling.{Memory, Planner, heft, minMin, Partial, ready, earliestStart, finishOn, weight, Choice, nothing, choose, earlier}
 use Rattle.rules.specs.Scheduling.{tried, bothColours, byWeight, orRest, firstThatFits, earliestBelow, roundOf}
 use Rattle.rules.specs.RoundTrials.{triedBy, TrialLaw}
 use Rattle.rules.proofs.Tests.{split, by-order, is-false, and-true, and-no, or-yes}
-use Rattle.rules.proofs.WeightLaws.{Ahead, Sorted, Once, sumOver, byWeight-sorted, byWeight-once, byWeight-sum}
+use Rattle.rules.proofs.WeightLaws.{Ahead, Sorted, Once, byWeight-sorted, byWeight-once, byWeight-sum}
 
 -- ---- what is chosen of one task is that task
 
@@ -63,7 +63,8 @@ module _ (m : Memory) (I : Instance) where
       let w = eqb-true (weight I i) (weight I k) p in
       d (omega (arith, leb-true k i q, a .1 (sym w)))))
 
-over-zero : (is : List ℕ) (f : ℕ → ℕ) → ((k : ℕ) → List·Memᴰ k is → f k ≡ 0) → sumOver is f ≡ 0
+over-zero : (is : List ℕ) (f : ℕ → ℕ) → ((k : ℕ) → List·Memᴰ k is → f k ≡ 0) → sumOver f is ≡ 0
+unfolding sumOver
 over-zero [] f h = refl
 over-zero (i ∷ is) f h = omega (arith, h i (List·Memᴰ·head refl), over-zero is f (λ k m. h k (List·Memᴰ·tail m)))
 
@@ -98,15 +99,16 @@ module _ (m : Memory) (I : Instance) (Q : Partial) where
   counts-none : (x : Choice) (k : ℕ) → triedBy (heft m) I x k ≡ false → counted (heft m) x k ≡ 0
   counts-none x k e = rw (e, and-no (ready I (Q .schedule) k))
 
-  first-counted : (is : List ℕ) → Sorted I is → Once is → firstThatFits m I Q is .trials ≡ sumOver is (counted (heft m) (firstThatFits m I Q is .choice))
+  first-counted : (is : List ℕ) → Sorted I is → Once is → firstThatFits m I Q is .trials ≡ sumOver (counted (heft m) (firstThatFits m I Q is .choice)) is
+  unfolding sumOver
   first-counted [] s o = rw first-none
   first-counted (i ∷ is) s o = split (ready I (Q .schedule) i)
       (λ r. rw (first-tries i is r) (on r (bothColours m I Q i) refl (first-counted is (s .1) (o .1))))
       (λ r. rw (first-skips i is r, r) (omega (arith, first-counted is (s .1) (o .1))))
     where
       on : ready I (Q .schedule) i ≡ true → (x : Choice) → bothColours m I Q i ≡ x
-          → firstThatFits m I Q is .trials ≡ sumOver is (counted (heft m) (firstThatFits m I Q is .choice))
-          → orRest x (firstThatFits m I Q is) .trials ≡ sumOver (i ∷ is) (counted (heft m) (orRest x (firstThatFits m I Q is) .choice))
+          → firstThatFits m I Q is .trials ≡ sumOver (counted (heft m) (firstThatFits m I Q is .choice)) is
+          → orRest x (firstThatFits m I Q is) .trials ≡ sumOver (counted (heft m) (orRest x (firstThatFits m I Q is) .choice)) (i ∷ is)
       on r nothing e h = rw (r, ahead-tried m I i is (firstThatFits m I Q is .choice) (s .0) (first-within is)) (ap (λ n. 2 + n) h)
       on r (choose j c t) e h =
           let q = both-task m I Q i j c t e in

@@ -10,7 +10,7 @@ use borrow.Author.Tests.{leb-true, eqb-true, eq-eqb}
 use Rattle.rules.specs.Count.{countWhere}
 use Rattle.rules.specs.Limits.{maxSteps}
 use Rattle.rules.specs.Model.{Instance, Schedule}
-use Rattle.rules.specs.Validity.{Claim, Verdict, refusedBy as refusal, judge, makespan, trueClaim}
+use Rattle.rules.specs.Validity.{Complete, Claim, Verdict, refusedBy as refusal, judge, makespan, trueClaim}
 use Rattle.rules.specs.Text.{Fault, tooLong, malformed, outOfRange, undue, Source, inSheet, inTimetable, faultNumber}
 use Rattle.rules.specs.InstanceText.{InstanceRead, refused, accepted, readInstance}
 use Rattle.rules.specs.ScheduleText.{ScheduleRead, refused as refusedTimetable, read, readSchedule}
@@ -21,7 +21,7 @@ use Rattle.rules.specs.SimulationPromises.{isFault, isOfText, Agrees, Si
 use Rattle.rules.proofs.Tests.{split, clash, is-false, and-true, by-or}
 use Rattle.rules.proofs.WhereLaws.{count-yes, count-mono, count-least}
 use Rattle.rules.proofs.JudgeLaws.{Judged, by15, by16, by17, by18, by0, judged}
-use Rattle.rules.proofs.CompleteLaws.{Complete, spellable-complete}
+use Rattle.rules.proofs.CompleteLaws.{spellable-complete}
 use Rattle.rules.proofs.PlaceLaws.{first-unique}
 use Rattle.rules.proofs.SheetLaws.{sheetExact}
 use Rattle.rules.proofs.TimetableLaws.{timetable-exact}

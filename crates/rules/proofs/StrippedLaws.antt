@@ -12,14 +12,14 @@ use borrow.Author.Tests.{ltb-true, leb-true, le-leb, lt-ltb}
 use Rattle.rules.specs.Limits.{ticks}
 use Rattle.rules.specs.Model.{Colour, blue, red, sameColour, Instance, taskCount, fileCount, workAt, fileAt, sizeAt, isPlaced, Schedule, runAt, startAt, moveAt, colourOf, finishAt, releaseOf, makerRun, readerRun, moved, madeAt, moveEnd, unplaced}
 use Rattle.rules.specs.Residency.{during, never, closedHold, covers, filesHeld, workHeld, held, isHeld, isWorkHeld, workBy}
-use Rattle.rules.specs.Validity.{Claim, Greatest, Apart, AllOnTime, WithinLimits, Valid, makespan, peak, trueClaim}
+use Rattle.rules.specs.Validity.{Complete, Claim, Greatest, Apart, AllOnTime, WithinLimits, Valid, makespan, peak, trueClaim}
 use Rattle.rules.specs.Promises.{In, WellFormed, Spellable}
 use Rattle.rules.specs.Conversion.{hasWork, addedCount, servedAt, converted, stripped}
 use Rattle.rules.specs.ConversionPromises.{StrippedLaw}
 use Rattle.rules.proofs.Tests.{split, clash, and-true, and-no}
 use Rattle.rules.proofs.CountLaws.{sum-cong, sum-mono, max-bound, max-under}
 use Rattle.rules.proofs.HoldLaws.{hold-closed}
-use Rattle.rules.proofs.CompleteLaws.{Complete, spellable-complete, maker-placed, reader-placed, peak-greatest, true-claimed}
+use Rattle.rules.proofs.CompleteLaws.{spellable-complete, maker-placed, reader-placed, peak-greatest, true-claimed}
 use Rattle.rules.proofs.AppendLaws.{sum-append}
 use Rattle.rules.proofs.InsideLaws.{Inside, same-colour, moved-same, finish-later, release-later, onTime-here, share-there, held-later}
 use Rattle.rules.proofs.WhereLaws.{where-sum}

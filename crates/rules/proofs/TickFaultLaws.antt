@@ -9,14 +9,14 @@ use borrow.Author.Tests.{ltb-true, lt-ltb, eqb-true, eq-eqb}
 use Rattle.rules.specs.Count.{firstBelow}
 use Rattle.rules.specs.Model.{Colour, blue, red, Instance, limitOf, taskCount, fileAt, fileCount, Schedule, moveAt, startAt, finishAt, moved, madeAt, moveEnd}
 use Rattle.rules.specs.Residency.{held, horizon}
-use Rattle.rules.specs.Validity.{Claim, OverLimit, overlap, overlaps, early, earlyFor, readsEarly, over, makespan, Verdict}
+use Rattle.rules.specs.Validity.{Complete, Claim, OverLimit, overlap, overlaps, early, earlyFor, readsEarly, over, makespan, Verdict}
 use Rattle.rules.specs.Promises.{WellFormed, First}
 use Rattle.rules.specs.Simulation.{sharesFrom, taskShares, sharesAt, arrivesAt, readAt, movesEarly, startsEarly, fileEarly, earlyAt, faultAt, isFaulty, closing, firstFaulty}
 use Rattle.rules.specs.SimulationPromises.{LaterStart, EarlyTick, earlyMove, earlyStart, FaultOf, by15, by16, by17, Faulty, isFault}
 use Rattle.rules.proofs.Tests.{split, clash, and-true, or-yes}
 use Rattle.rules.proofs.CountLaws.{max-bound, any-found, any-some, first-holds, first-found, first-none}
-use Rattle.rules.proofs.CompleteLaws.{Complete, nothing-left}
-use Rattle.rules.proofs.ValidLaws.{overlap-meets, meets-overlap, overlaps-exact, early-moved, early-unmoved, over-limit, apart-exact}
+use Rattle.rules.proofs.CompleteLaws.{nothing-left}
+use Rattle.rules.proofs.ValidLaws.{overlap-meets, meets-overlap, overlaps-exact, early-moved, early-unmoved, over-limit, limit-over, apart-exact}
 use Rattle.rules.proofs.JudgeLaws.{settled, NoneBelow, Judged, by15 as judged15, by16 as judged16, by17 as judged17, by18 as judged18, by0 as judged0}
 
 -- ---- 16, of a file
@@ -89,14 +89,6 @@ module _ (I : Instance) (P : Schedule) (t : ℕ) where
   tick-early (earlyMove k l m a e) = any-some (fileCount I) (fileEarly I P t) k l (rw (m, lt-ltb _ _ a, eq-eqb _ _ e))
   tick-early (earlyStart k l a e) = any-some (fileCount I) (fileEarly I P t) k l (rw (lt-ltb _ _ a, eq-eqb _ _ e) (or-yes (movesEarly I P k && eqb (moveAt P k) t)))
 
-  more-over : (c : Colour) → limitOf I c < held I P c t → over I P t ≡ true
-  unfolding over
-  more-over blue l = rw (lt-ltb _ _ l)
-  more-over red l = rw (lt-ltb _ _ l) (or-yes (ltb (limitOf I blue) (held I P blue t)))
-
-  limit-over : OverLimit I P t → over I P t ≡ true
-  limit-over o = more-over (o .memory) (o .more)
-
   -- what the number says
   pub data Fault : ℕ → Type 0 where
     some : {n : ℕ} → FaultOf I P t n → Fault n
@@ -110,7 +102,7 @@ module _ (I : Instance) (P : Schedule) (t : ℕ) where
       (λ b. rw (a, b) (some (by16 (no-later a) (early-tick b))))
       (λ b. split (over I P t)
       (λ d. rw (a, b, d) (some (by17 (no-later a) (no-early b) (over-limit I P t d))))
-      (λ d. rw (a, b, d) (none (no-later a) (no-early b) (λ o. clash (limit-over o) d)))))
+      (λ d. rw (a, b, d) (none (no-later a) (no-early b) (λ o. clash (limit-over I P t o) d)))))
     where
       no-later : sharesAt I P t ≡ false → LaterStart I P t → ⊥
       no-later a x = clash (later-shares x) a
@@ -186,7 +178,7 @@ finish-span I P i l = max-bound (taskCount I) (finishAt I P) i l
 
 module _ (I : Instance) (W : WellFormed I) (P : Schedule) (complete : Complete I P) where
   -- nothing is over its limit from where the memories settle on
-  over-settled : (t : ℕ) → OverLimit I P t → t < settled I P
+  pub over-settled : (t : ℕ) → OverLimit I P t → t < settled I P
   over-settled t o = go (o .memory) (o .more)
     where
       go : (c : Colour) → limitOf I c < held I P c t → t < settled I P

@@ -10,14 +10,13 @@ use borrow.Author.Tests.{ltb-true, ltb-false, lt-ltb, leb-true, eq-eqb}
 use Rattle.rules.specs.Count.{sumBelow, countWhere, anyBelow, sumWhere}
 use Rattle.rules.specs.Model.{Colour, blue, red, Instance, taskCount, workAt, fileAt, fileCount, sizeAt, Schedule, startAt, moveAt, moved}
 use Rattle.rules.specs.Residency.{Hold, never, during, since, holdOf, workOf, covers, filesHeld, workHeld, held}
-use Rattle.rules.specs.Validity.{OverLimit, makespan}
+use Rattle.rules.specs.Validity.{Complete, OverLimit, makespan}
 use Rattle.rules.specs.Promises.{WellFormed, First}
 use Rattle.rules.specs.Simulation.{turns, runTurns, taskTurns, moveTurns, fileTurns, isTurn, faultAt, closing, firstFaulty, stepTicks, stepCount, stateAt, stateAfter, stepsLeft, stopped, ended, progressOf, watch}
 use Rattle.rules.specs.SimulationPromises.{earlyMove, earlyStart, FaultOf, by15, by16, by17, Faulty, FaultTurn}
 use Rattle.rules.proofs.Tests.{split, clash, and-true, or-left, or-right}
 use Rattle.rules.proofs.CountLaws.{sum-cong, sum-less, sum-zero, any-some}
 use Rattle.rules.proofs.WhereLaws.{length-where, count-yes, count-gap, count-mono, where-place}
-use Rattle.rules.proofs.CompleteLaws.{Complete}
 use Rattle.rules.proofs.PlaceLaws.{first-unique}
 use Rattle.rules.proofs.TickFaultLaws.{of-over, first-faulty, some-faulty}
 use Rattle.rules.proofs.TickLaws.{stillLaw, turn-closes}
