@@ -38,12 +38,6 @@ module _ {b : Shape} {J : Job} {L : Entries} (f : Bounds b J L) where
   abbrev P : Schedule
   P = scheduleFrom b L
 
-  -- ---- makespan
-
-  pub span-total : {n : ℕ} → n ≡ b .tasks → maxBelow n (finishAt I P) ≡ makespan I P
-  unfolding makespan
-  span-total e = rw (task-count b J, e)
-
   -- ---- the peaks
 
   module _ (c : Colour) where

@@ -4,7 +4,7 @@ ghost use mathlib.Core.Path.{_≡_};
 ghost use mathlib.Core.Bool.{cond};
 ghost use Prim.Native.Nat.{_+_, _<_, _≤_};
 ghost use Rattle.rules.specs.Residency.{held};
-ghost use Rattle.rules.specs.Validity.{makespan as rules-makespan, peak as rules-peak, trueClaim};
+ghost use Rattle.rules.specs.Validity.{peak as rules-peak, trueClaim};
 ghost use Rattle.model.specs.Claims.{asClaim};
 ghost use Rattle.model.specs.Holds.{asHold};
 ghost use Rattle.model.specs.Colours.{asColour};
@@ -16,33 +16,13 @@ use model::colour::Colour;
 use model::layout;
 use model::layout::Shape;
 use model::residency::Hold;
-use model::residency::finish;
 use model::residency::hold_of;
 use model::residency::work_hold;
+use model::span::makespan;
 use model::totals::held_at;
 
-// The greatest finish: document 01's span.
-pub fn makespan<'a>(
-    shape: Shape,
-    job: &'a [u64; layout::JOB],
-    schedule: &'a [u64; layout::SCHEDULE],
-) -> u64
-    requires { ⌜ InBounds shape (now job) (now schedule) ⌝ }
-    ensures { λ r. ⌜ r ≡
-        rules-makespan (instanceOf shape (now (job .entry))) (scheduleOf shape (now (schedule .entry))) ⌝ }
-    ensures { λ r. ⌜ r ≤ lastTick ⌝ }
-{
-    let mut most: u64 = 0;
-    let mut i: usize = 0;
-    while i < shape.tasks {
-        most = greater(most, finish(shape, job, schedule, i));
-        i += 1;
-    }
-    most
-}
-
 // Hold n of the memory of the colour: the holds of the files are counted first, then those of the tasks' working memory.
-pub fn nth_hold<'a>(
+fn nth_hold<'a>(
     shape: Shape,
     job: &'a [u64; layout::JOB],
     schedule: &'a [u64; layout::SCHEDULE],

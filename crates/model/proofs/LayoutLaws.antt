@@ -4,10 +4,11 @@ use mathlib.Core.List.{List}
 use mathlib.Core.Path.{_≡_, refl, sym, ap, _∙_}
 use native.Mathlib.Omega.{arith}
 use lib.Dec.{eqb}
-use borrow.Author.Tests.{le-leb, lt-leb}
+use borrow.Author.Tests.{le-leb, lt-leb, lt-ltb}
 use lib.ListN.{getD}
 use Rattle.rules.specs.Model.{blue, red, Instance, Task, fileAt, fileCount, taskAt, taskCount, limitOf, sideOf, timeOn, workAt, sizeAt, moveTimeAt}
 use Rattle.rules.specs.Model.{runAt, startAt, moveAt, colourOf, finishAt}
+use Rattle.rules.specs.Validity.{Complete}
 use Rattle.rules.specs.Scheduling.{reads, makes, finishOn}
 use Rattle.rules.specs.Limits.{processorCounts, runTimes, workSizes}
 use Rattle.rules.specs.Promises.{In, WellFormed}
@@ -16,7 +17,7 @@ use Rattle.model.specs.declared.layout.Shape.{Shape}
 use Rattle.model.specs.declared.colour.Colour.{Colour}
 use Rattle.model.specs.declared.colour.Colour.the-variants.{Blue, Red}
 use Rattle.model.specs.Colours.{asColour, byColour}
-use Rattle.model.specs.Layout.{Job, Entries, taskFrom, fileFrom, runFrom, instanceFrom, scheduleFrom, partialFrom, colourAt, countIn, JobBounds}
+use Rattle.model.specs.Layout.{Job, Entries, taskFrom, fileFrom, runFrom, instanceFrom, scheduleFrom, partialFrom, colourAt, countIn, JobBounds, Placed}
 
 pub time-by : (x : Colour) (a : Task) → timeOn (asColour x) a ≡ byColour x (a .onBlue) (a .onRed)
 time-by Blue a = refl
@@ -164,3 +165,9 @@ module _ (b : Shape) (J : Job) (w : WellFormed (instanceFrom b J)) where
       most = omega (arith, w .moveTimes k (file-in h) .most, move-time-at b J k h);
     };
   }
+
+-- a schedule whose tasks are all placed
+pub placed-complete : (b : Shape) (J : Job) (L : Entries) → Placed b L → Complete (instanceFrom b J) (scheduleFrom b L)
+placed-complete b J L placed i h =
+    let l : i < b .tasks = omega (arith, task-count b J) in
+    lt-ltb 0 (runAt (scheduleFrom b L) i .processor) (omega (arith, placed i l, processor-at b L i l))

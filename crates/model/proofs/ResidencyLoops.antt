@@ -4,8 +4,9 @@ use mathlib.Core.Bool.{Bool, cond}
 use mathlib.Core.Path.{_≡_}
 use native.Mathlib.Omega.{arith}
 use Rattle.rules.specs.Count.{sumWhere, maxBelow}
-use Rattle.rules.specs.Model.{Colour, Instance, Schedule, workAt, sizeAt}
+use Rattle.rules.specs.Model.{Colour, Instance, Schedule, workAt, sizeAt, finishAt}
 use Rattle.rules.specs.Residency.{covers, settles, holdOf, workOf, isHeld, isWorkHeld, filesHeld, workHeld, settlesAt, workSettlesAt, filesHorizon, workHorizon}
+use Rattle.rules.specs.Validity.{makespan}
 use Rattle.model.specs.declared.layout.Shape.{Shape}
 use Rattle.model.specs.declared.residency.Hold.{Hold}
 use Rattle.model.specs.Layout.{Job, Entries, Bounds, instanceFrom, scheduleFrom}
@@ -55,3 +56,9 @@ module _ {b : Shape} {J : Job} {L : Entries} (f : Bounds b J L) (c : Colour) whe
     pub work-horizon-total : maxBelow n (workSettlesAt I P c) ≡ workHorizon I P c
     unfolding workHorizon
     work-horizon-total = rw (task-count b J, e)
+
+-- the makespan
+pub span-total : {b : Shape} {J : Job} {L : Entries} → Bounds b J L → {n : ℕ} → n ≡ b .tasks
+    → maxBelow n (finishAt (instanceFrom b J) (scheduleFrom b L)) ≡ makespan (instanceFrom b J) (scheduleFrom b L)
+unfolding makespan
+span-total {b} {J} f e = rw (task-count b J, e)

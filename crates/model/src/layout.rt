@@ -145,7 +145,7 @@ pub fn colour_of(shape: Shape, schedule: &[u64; SCHEDULE], i: usize) -> Colour
 }
 
 // Stores a number. Lent as a slice, an array shows how long it is.
-fn store(array: &mut [u64], at: usize, number: u64)
+pub fn store(array: &mut [u64], at: usize, number: u64)
     requires { ⌜ at < length (now array) ⌝ }
     ensures { λ _. ⌜ now (array .exit) ≡ set (now (array .entry)) at number ⌝ }
 {

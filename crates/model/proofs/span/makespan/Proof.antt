@@ -4,12 +4,12 @@ use mathlib.Core.Path.{_≡_, sym}
 use native.Mathlib.Omega.{arith}
 use Rattle.rules.specs.Count.{maxBelow}
 use Rattle.rules.specs.Model.{finishAt}
 use Rattle.model.specs.Layout.{jobOf, entriesOf, instanceFrom, scheduleFrom, lastTick}
 use Rattle.model.proofs.StepLaws.{max-none, max-next}
-use Rattle.claims.proofs.ClaimLoops.{span-total}
+use Rattle.model.proofs.ResidencyLoops.{span-total}
 use borrow.Author.Needs.{needs}
-use Rattle.claims.proofs.makespan.Statement.{statement}
-use Rattle.claims.proofs.makespan.Tie as tie
+use Rattle.model.proofs.span.makespan.Statement.{statement}
+use Rattle.model.proofs.span.makespan.Tie as tie
 
 abbrev Inv-loop : tie.InvT-loop
 Inv-loop shape job schedule most₀ i₀ most i =
