@@ -1,26 +1,29 @@
 -- The faults of a tick, by what the code asks for.
 use Prim.Native.Nat.{ℕ, _≤_, _<_, max}
-use mathlib.Core.Bool.{Bool, true, false, not, _&&_}
+use mathlib.Core.Bool.{Bool, true, false, not, _&&_, _||_}
 use mathlib.Core.Path.{_≡_, refl, sym, _∙_}
 use mathlib.Core.Logic.{_≢_}
 use native.Mathlib.Omega.{arith}
 use native.Mathlib.Decide.{decLe}
 use lib.Dec.{leb, ltb, eqb}
-use borrow.Author.Tests.{leb-true, le-leb, lt-leb, eqb-true, eq-eqb, ne-eqb}
+use borrow.Author.Tests.{leb-true, le-leb, lt-leb, le-ltb, eqb-true, eq-eqb, ne-eqb}
 use Rattle.rules.specs.Count.{anyBelow}
-use Rattle.rules.specs.Model.{Instance, taskCount, fileCount, Schedule, runAt, startAt, finishAt, moved}
+use Rattle.rules.specs.Model.{blue, red, Instance, limitOf, taskCount, fileCount, Schedule, runAt, startAt, finishAt, moved}
+use Rattle.rules.specs.Residency.{held}
 use Rattle.rules.specs.Validity.{overlap, over}
 use Rattle.rules.specs.Simulation.{sharesFrom, taskShares, sharesAt, fileEarly, earlyAt, faultAt}
 use Rattle.rules.proofs.Tests.{split, same-test, and-true, and-swap, eqb-sym}
 use Rattle.rules.proofs.CountLaws.{any-some, any-found}
+use Rattle.rules.proofs.ValidLaws.{more-over}
 use Rattle.runs.specs.Scan.{overlapping}
 use Rattle.runs.specs.declared.Run.{Run}
 use Rattle.model.specs.declared.layout.Shape.{Shape}
+use Rattle.model.specs.declared.colour.Colour.the-variants.{Blue, Red}
 use Rattle.model.specs.declared.residency.FileTimes.{FileTimes}
 use Rattle.model.specs.Holds.{TimesOf}
-use Rattle.model.specs.Layout.{Job, Entries, instanceFrom, scheduleFrom}
+use Rattle.model.specs.Layout.{Job, Entries, Bounds, instanceFrom, scheduleFrom}
 use Rattle.model.proofs.FileLaws.{arrives-moved}
-use Rattle.model.proofs.LayoutLaws.{task-count, file-count, start-at}
+use Rattle.model.proofs.LayoutLaws.{task-count, file-count, start-at, limit-of}
 use Rattle.validator.specs.Records.{recordAt}
 use Rattle.validator.proofs.OverlapLaws.{overlap-self, overlap-records}
 use Rattle.simulator.specs.Faults.{begunOverlaps, overlapsBegun, startsOverlapping, earlyBy}
@@ -156,3 +159,21 @@ module _ (b : Shape) (J : Job) (L : Entries) where
 
   pub files-over : (p : ℕ → Bool) {n : ℕ} → n ≡ b .files → anyBelow n p ≡ false → false ≡ anyBelow (fileCount inst) p
   files-over p e = any-over p (e ∙ sym (file-count b J))
+
+-- ---- 17
+
+over-is : (I : Instance) (P : Schedule) (t : ℕ) {l m x y : ℕ} → l ≡ limitOf I blue → m ≡ limitOf I red → x ≡ held I P blue t → y ≡ held I P red t
+    → (ltb l x || ltb m y) ≡ over I P t
+unfolding over
+over-is I P t p q r s = rw (p, q, r, s)
+
+module _ {b : Shape} {J : Job} {L : Entries} (f : Bounds b J L) where
+  pub over-yes : (t : ℕ) {x : ℕ} → x ≡ held (instanceFrom b J) (scheduleFrom b L) blue t → b .board .blue .limit < x
+      → true ≡ over (instanceFrom b J) (scheduleFrom b L) t
+  over-yes t {x} e l = sym (more-over (instanceFrom b J) (scheduleFrom b L) t blue (omega (arith, limit-of b J Blue)))
+
+  pub over-rest : (t : ℕ) {x y : ℕ} → x ≡ held (instanceFrom b J) (scheduleFrom b L) blue t → x ≤ b .board .blue .limit
+      → y ≡ held (instanceFrom b J) (scheduleFrom b L) red t → ltb (b .board .red .limit) y ≡ over (instanceFrom b J) (scheduleFrom b L) t
+  over-rest t {x} {y} e l g =
+      let z = over-is (instanceFrom b J) (scheduleFrom b L) t (sym (limit-of b J Blue)) (sym (limit-of b J Red)) e g in
+      rw (le-ltb (b .board .blue .limit) x l) at z

@@ -6,17 +6,13 @@ use mathlib.Core.Path.{_≡_, refl, sym, _∙_, ap}
 use native.Mathlib.Numerals.{add-one}
 use native.Mathlib.Omega.{arith}
 use borrow.Author.Tests.{ltb-true, lt-ltb}
-use Rattle.rules.specs.Model.{Instance, Schedule, runAt}
-use Rattle.rules.specs.Validity.{makespan}
+use Rattle.rules.specs.Model.{Instance, Schedule}
+use Rattle.rules.specs.Validity.{Complete, makespan}
 use Rattle.rules.specs.Promises.{WellFormed}
 use Rattle.rules.specs.Simulation.{before, stateAt, stateAfter, isTurn, faultAt, Progress, stepsLeft, stopped, ended, Simulation, watch}
 use Rattle.rules.specs.SimulationPromises.{Faulty}
-use Rattle.rules.proofs.CompleteLaws.{Complete}
 use Rattle.rules.proofs.TickFaultLaws.{is-faulty, faulty-is}
 use Rattle.rules.proofs.WalkLaws.{Walked, walk-begins, walk-steps, walk-left, walk-stops, walk-ends}
-use Rattle.model.specs.declared.layout.Shape.{Shape}
-use Rattle.model.specs.Layout.{Job, Entries, instanceFrom, scheduleFrom, Placed}
-use Rattle.model.proofs.LayoutLaws.{task-count, processor-at}
 use Rattle.simulator.specs.declared.walk.Step.{Step}
 use Rattle.simulator.specs.declared.walk.Step.the-variants.{Onto, Barred}
 use Rattle.simulator.specs.declared.answer.Progress as Code
@@ -111,13 +107,6 @@ module _ (I : Instance) (W : WellFormed I) (P : Schedule) (C : Complete I P) {ma
 
     pub walk-reaches : (wanted : ℕ) → made ≡ wanted → Reaches I P from q → a ≡ watch I P wanted
     walk-reaches wanted g x = e ∙ all-made x ∙ ap (watch I P) g
-
--- ---- a schedule whose tasks are all placed
-
-pub placed-complete : (b : Shape) (J : Job) (L : Entries) → Placed b L → Complete (instanceFrom b J) (scheduleFrom b L)
-placed-complete b J L placed i h =
-    let l : i < b .tasks = omega (arith, task-count b J) in
-    lt-ltb 0 (runAt (scheduleFrom b L) i .processor) (omega (arith, placed i l, processor-at b L i l))
 
 -- ---- the answer's state
 

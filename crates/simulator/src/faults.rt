@@ -2,18 +2,19 @@
 // the working memory (Order 6) that are held.
 ghost use mathlib.Core.Path.{_≡_};
 ghost use Prim.Native.Nat.{_<_};
-ghost use Rattle.rules.specs.Validity.{overlap};
+ghost use Rattle.rules.specs.Validity.{overlap, over};
 ghost use Rattle.rules.specs.Simulation.{sharesAt, fileEarly, earlyAt, faultAt};
 ghost use Rattle.model.specs.Layout.{instanceOf, scheduleOf, InBounds};
 ghost use Rattle.simulator.specs.Faults.{begunOverlaps, overlapsBegun, startsOverlapping, earlyMove, earlyStart, earlyBy};
+use model::colour::Colour;
 use model::layout;
 use model::layout::Shape;
 use model::residency::FileTimes;
 use model::residency::file_times;
+use model::totals::held_at;
 use runs::overlapping_runs;
 use validator::exclusion::run_of;
 use validator::judgement::Verdict;
-use validator::memory::over_at;
 use validator::timing::moves_early;
 use validator::timing::starts_early;
 
@@ -180,6 +181,22 @@ fn early_at<'a>(
         i += 1;
     }
     false
+}
+
+// Whether a memory is over its limit at tick t: what is held then is counted, by the definition.
+fn over_at<'a>(
+    shape: Shape,
+    job: &'a [u64; layout::JOB],
+    schedule: &'a [u64; layout::SCHEDULE],
+    t: u64,
+) -> bool
+    requires { ⌜ InBounds shape (now job) (now schedule) ⌝ }
+    ensures { λ r. ⌜ r ≡ over (instanceOf shape (now (job .entry))) (scheduleOf shape (now (schedule .entry))) t ⌝ }
+{
+    if shape.board.blue.limit < held_at(shape, job, schedule, Colour::Blue, t) {
+        return true;
+    }
+    shape.board.red.limit < held_at(shape, job, schedule, Colour::Red, t)
 }
 
 // The fault of tick t: 15, 16 or 17 in this order, or 0.

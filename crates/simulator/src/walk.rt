@@ -12,9 +12,9 @@ use super::state::contents_at;
 use super::state::running_at;
 use super::turns::NO_TICK;
 use super::turns::next_turn;
-use claims::makespan;
 use model::layout;
 use model::layout::Shape;
+use model::span::makespan;
 
 // What the next step does: it goes to a turn, or it is not made, and that is how the walk ends.
 pub enum Step {

@@ -1,16 +1,22 @@
 -- The verdict test by test.
-use Prim.Native.Nat.{ℕ, _+_, _≤_, _<_, max}
+use Prim.Native.Nat.{ℕ, _+_, _≤_, _<_}
 use mathlib.Core.Bool.{Bool, true, false}
-use mathlib.Core.Path.{_≡_, sym, _∙_, ap}
+use mathlib.Core.Option.{Option, none, some}
+use mathlib.Core.Path.{_≡_, sym, _∙_}
 use mathlib.Core.Logic.{_≢_}
 use native.Mathlib.Numerals.{add-one}
 use lib.Dec.{eqb}
 use borrow.Author.Tests.{lt-ltb, le-ltb, eq-eqb, ne-eqb}
 use Rattle.rules.specs.Count.{firstBelow}
-use Rattle.rules.specs.Model.{blue, red, Instance, taskCount, Schedule}
-use Rattle.rules.specs.Residency.{horizon}
-use Rattle.rules.specs.Validity.{Claim, overlaps, readsEarly, over, trueClaim, sameClaim, Verdict, refusedBy, acceptedWith}
-use Rattle.rules.specs.Validity.{judgedClaim, judgedMemory, judgedTiming, judge}
+use Rattle.rules.specs.Model.{Instance, taskCount, Schedule}
+use Rattle.rules.specs.Validity.{Claim, Complete, AllOnTime, overlaps, readsEarly, makespan, sameClaim, Verdict, refusedBy, acceptedWith}
+use Rattle.rules.specs.Validity.{judgedMemory, judgedTiming, judge}
+use Rattle.rules.specs.Changes.{memoryByFirst, memoryByChanges}
+use Rattle.rules.specs.Promises.{WellFormed}
+use Rattle.rules.proofs.CountLaws.{first-none}
+use Rattle.rules.proofs.ValidLaws.{onTime-exact}
+use Rattle.rules.proofs.ChangeLaws.{memory-same}
+use Rattle.validator.specs.Memories.{ByChanges}
 
 module _ (I : Instance) (P : Schedule) (claim : Claim) where
   module _ {i n : ℕ} (e : i ≡ firstBelow (taskCount I) (overlaps I P)) (t : taskCount I ≡ n) where
@@ -31,29 +37,31 @@ module _ (I : Instance) (P : Schedule) (claim : Claim) where
     unfolding judgedTiming
     timing-on r l = r ∙ rw (le-ltb (firstBelow (taskCount I) (readsEarly I P)) (taskCount I) (rw (e, ← t) at l))
 
-  module _ {t last : ℕ} (s : last ≡ max (horizon I P blue) (horizon I P red)) (e : t ≡ firstBelow last (over I P)) where
-    abbrev settled : ℕ
-    settled = max (horizon I P blue) (horizon I P red)
+-- free of 16
+pub timely : (I : Instance) → WellFormed I → (P : Schedule) {j n : ℕ} → j ≡ firstBelow (taskCount I) (readsEarly I P) → taskCount I ≡ n → n ≤ j
+    → AllOnTime I P
+timely I W P e t l = onTime-exact I W P .0 (first-none (taskCount I) (readsEarly I P) (le-ltb _ (taskCount I) (rw (e, ← t) at l)))
 
-    pub judge-17 : {v : Verdict} → v ≡ refusedBy 17 t → t < last → v ≡ judgedMemory I P claim
-    unfolding judgedMemory
-    judge-17 r l = r ∙ rw (e, s) (rw (lt-ltb (firstBelow settled (over I P)) settled (rw (e, s) at l)))
+-- 17 and 18, by the changes
+module _ (I : Instance) (W : WellFormed I) (P : Schedule) (complete : Complete I P) (onTime : AllOnTime I P) (claim : Claim)
+    {over : Option ℕ} {bluePeak redPeak : ℕ} (m : ByChanges I P over bluePeak redPeak) where
+  by-first : memoryByFirst over claim (record { span = makespan I P; bluePeak = bluePeak; redPeak = redPeak }) ≡ judgedMemory I P claim
+  unfolding memoryByChanges
+  by-first = rw (m .isFirst, m .isBluePeak, m .isRedPeak) (memory-same I W P complete claim (m .blues) (m .reds) (m .blueInTime) (m .redInTime) onTime)
 
-    pub memory-on : {v : Verdict} → v ≡ judgedClaim I P claim → last ≤ t → v ≡ judgedMemory I P claim
-    unfolding judgedMemory
-    memory-on r l = r ∙ rw (le-ltb (firstBelow settled (over I P)) settled (rw (e, s) at l))
+  pub judge-17 : {v : Verdict} {t : ℕ} → v ≡ refusedBy 17 t → over ≡ some t → v ≡ judgedMemory I P claim
+  judge-17 r e = r ∙ (rw e at by-first)
 
-  module _ {own : Claim} (e : own ≡ trueClaim I P) {y : Bool} (q : y ≡ sameClaim claim own) where
-    same : {x : Bool} → y ≡ x → sameClaim claim (trueClaim I P) ≡ x
-    same h = ap (sameClaim claim) (sym e) ∙ sym q ∙ h
+  pub memory-on : {v : Verdict} {span : ℕ} → v ≡ memoryByFirst none claim (record { span = span; bluePeak = bluePeak; redPeak = redPeak })
+      → over ≡ none → span ≡ makespan I P → v ≡ judgedMemory I P claim
+  memory-on r e s = r ∙ (rw s (rw e at by-first))
 
-    pub judge-0 : {v : Verdict} → v ≡ acceptedWith claim → y ≡ true → v ≡ judgedClaim I P claim
-    unfolding judgedClaim
-    judge-0 r h = r ∙ rw (same h)
+-- the claim against the true one
+pub claim-same : (claim own : Claim) {v : Verdict} {y : Bool} → y ≡ sameClaim claim own → v ≡ acceptedWith claim → y ≡ true → v ≡ memoryByFirst none claim own
+claim-same claim own q r h = r ∙ rw (sym q ∙ h)
 
-    pub judge-18 : {v : Verdict} → v ≡ refusedBy 18 0 → y ≡ false → v ≡ judgedClaim I P claim
-    unfolding judgedClaim
-    judge-18 r h = r ∙ rw (same h)
+pub claim-differs : (claim own : Claim) {v : Verdict} {y : Bool} → y ≡ sameClaim claim own → v ≡ refusedBy 18 0 → y ≡ false → v ≡ memoryByFirst none claim own
+claim-differs claim own q r h = r ∙ rw (sym q ∙ h)
 
 pub same-span : (a b : Claim) → a .span ≢ b .span → false ≡ sameClaim a b
 same-span a b x = rw (ne-eqb (a .span) (b .span) x)

@@ -2,12 +2,12 @@
 
 -- the least value where a test holds
 pub mod LeastLaws
--- the first instant over a limit
-pub mod OverLaws
 -- the lowest reader of an early file
 pub mod EarlyLaws
 -- the lowest task whose run overlaps another's
 pub mod OverlapLaws
+-- both memories, from the totals of each
+pub mod MemoryLaws
 -- the verdict test by test
 pub mod JudgeSteps
 -- the loops over the files and the tasks

@@ -1,39 +1,26 @@
--- One turn of each loop over the files, the tasks or the holds, and what it comes to after all of them; and what the accessors read.
+-- One turn of each loop over the files or the tasks, and what it comes to after all of them; and what the accessors read.
 use Prim.Native.Nat.{ℕ, _+_, _≤_, _<_, min}
-use mathlib.Core.Bool.{Bool, true, false, cond, _&&_}
-use mathlib.Core.Path.{_≡_, refl, sym, ap, _∙_}
+use mathlib.Core.Bool.{Bool, cond}
+use mathlib.Core.Path.{_≡_, sym, ap, _∙_}
 use native.Mathlib.Omega.{arith}
 use native.Mathlib.Decide.{ℕ-discrete}
 use mathlib.Core.List.{List}
-use lib.Dec.{ltb}
 use lib.ListN.{length, set}
 use lib.Seq.{getD-set-same, getD-set-other}
-use borrow.Author.Tests.{le-ltb}
 use Rattle.rules.specs.Count.{firstBelow}
-use Rattle.rules.specs.Model.{Colour, blue, red, Instance, Schedule, taskCount, fileCount, finishAt}
-use Rattle.rules.specs.Residency.{held}
-use Rattle.rules.specs.Validity.{overlaps, early, readsEarly, over}
+use Rattle.rules.specs.Model.{Instance, Schedule, taskCount, fileCount, finishAt}
+use Rattle.rules.specs.Validity.{overlaps, early, readsEarly}
 use Rattle.model.specs.declared.layout.Shape.{Shape}
-use Rattle.model.specs.declared.colour.Colour.the-variants.{Blue, Red}
-use Rattle.model.specs.declared.residency.Hold.{Hold}
 use Rattle.model.specs.Layout.{Job, Entries, Bounds, instanceFrom, scheduleFrom}
-use Rattle.model.proofs.LayoutLaws.{file-count, task-count, reader-at, run-at, limit-of}
-use Rattle.model.specs.Holds.{asHold}
-use Rattle.claims.specs.Starts.{startOf, begins, nthHold, startsIn, startIn}
+use Rattle.model.proofs.LayoutLaws.{file-count, task-count, reader-at, run-at}
 use Rattle.runs.specs.declared.Run.{Run}
 use Rattle.runs.specs.First.{FirstOverlap}
 use Rattle.runs.specs.Scan.{noRun}
 use Rattle.validator.specs.Least.{leastWhere}
 use Rattle.validator.specs.Records.{recordAt, Records}
-use Rattle.validator.specs.OverLimit.{overAtStart, firstOverIn}
 use Rattle.validator.proofs.EarlyLaws.{readerOf, first-early}
 use Rattle.validator.proofs.LeastLaws.{least-turn}
 use Rattle.validator.proofs.OverlapLaws.{lowest-overlapping}
-use Rattle.validator.proofs.OverLaws.{over-by, over-is, first-over}
-
-two-tests : (p q : Bool) (m n : ℕ) → cond p (cond q m n) n ≡ cond (p && q) m n
-two-tests true q m n = refl
-two-tests false q m n = refl
 
 module _ {b : Shape} {J : Job} {L : Entries} (f : Bounds b J L) where
   abbrev I : Instance
@@ -72,27 +59,3 @@ module _ {b : Shape} {J : Job} {L : Entries} (f : Bounds b J L) where
       let z : leastWhere n (b .tasks) (early I P) (readerOf I) ≡ leastWhere (fileCount I) (taskCount I) (early I P) (readerOf I) =
       rw (file-count b J, task-count b J, e) in
       z ∙ first-early I P
-
-  -- ---- 17
-
-  module _ (c : Colour) where
-    pub over-turn : (last n : ℕ) (x : Hold) {r : ℕ} → asHold x ≡ nthHold I P c n
-        → r ≡ cond (begins (asHold x)) (cond (over I P (startOf (asHold x))) (startOf (asHold x)) last) last
-        → leastWhere (n + 1) last (overAtStart I P c) (startIn I P c) ≡ min (leastWhere n last (overAtStart I P c) (startIn I P c)) r
-    over-turn last n x {r} g e =
-        let z : r ≡ cond (overAtStart I P c n) (startIn I P c n) last = rw g at e ∙ two-tests (startsIn I P c n) (over I P (startIn I P c n)) (startIn I P c n) last in
-        least-turn last (overAtStart I P c) (startIn I P c) n z refl refl
-
-    pub over-in-total : (last : ℕ) {n : ℕ} → n ≡ b .files + b .tasks → leastWhere n last (overAtStart I P c) (startIn I P c) ≡ firstOverIn I P c last
-    over-in-total last e = rw (file-count b J, task-count b J, e)
-
-  pub over-yes : (t : ℕ) {x : ℕ} → x ≡ held I P blue t → b .board .blue .limit < x → true ≡ over I P t
-  over-yes t {x} e l = sym (over-by I P blue t (omega (arith, limit-of b J Blue)))
-
-  pub over-rest : (t : ℕ) {x y : ℕ} → x ≡ held I P blue t → x ≤ b .board .blue .limit → y ≡ held I P red t → ltb (b .board .red .limit) y ≡ over I P t
-  over-rest t {x} {y} e l g =
-      let z = over-is I P t (sym (limit-of b J Blue)) (sym (limit-of b J Red)) e g in
-      rw (le-ltb (b .board .blue .limit) x l) at z
-
-  pub over-total : {x y r : ℕ} (last : ℕ) → r ≡ min x y → x ≡ firstOverIn I P blue last → y ≡ firstOverIn I P red last → r ≡ firstBelow last (over I P)
-  over-total last e p q = rw (e, p, q) (first-over I P last)

@@ -1,6 +1,6 @@
 -- What the validator's functions compute.
 pub mod Least
 pub mod Early
-pub mod OverLimit
+pub mod Memories
 pub mod Records
 pub mod Answer

@@ -1,17 +1,20 @@
 // The verdict on a complete schedule: refusals 15 to 18 in their order, or acceptance.
 ghost use mathlib.Core.Path.{_≡_};
-ghost use Rattle.rules.specs.Validity.{sameClaim, refusedBy, acceptedWith, judgedClaim, judgedMemory, judgedTiming, judge as rules-judge};
+ghost use mathlib.Core.Option.{none};
+ghost use Rattle.rules.specs.Changes.{memoryByFirst};
+ghost use Rattle.rules.specs.Promises.{WellFormed};
+ghost use Rattle.rules.specs.Validity.{AllOnTime, sameClaim, refusedBy, acceptedWith, judgedMemory, judgedTiming, judge as rules-judge};
 ghost use Rattle.model.specs.Claims.{asClaim};
 ghost use Rattle.model.specs.Layout.{entriesOf, instanceOf, scheduleOf, InBounds, Placed};
 ghost use Rattle.validator.specs.Answer.{asVerdict};
 use super::exclusion::first_overlapping;
-use super::memory::first_over;
-use super::memory::settled;
+use super::memory::walk_memories;
 use super::timing::first_early;
-use claims::true_claim;
+use changes::totals::Over;
 use model::claim::Claim;
 use model::layout;
 use model::layout::Shape;
+use model::span::makespan;
 
 // The marker's answer.
 pub struct Verdict {
@@ -68,42 +71,41 @@ fn same_claim(a: Claim, b: Claim) -> bool
     a.red_peak == b.red_peak
 }
 
-// The verdict from 18 on.
-fn judge_claim<'a>(
-    shape: Shape,
-    job: &'a [u64; layout::JOB],
-    schedule: &'a [u64; layout::SCHEDULE],
-    claim: Claim,
-) -> Verdict
-    requires { ⌜ InBounds shape (now job) (now schedule) ⌝ }
-    requires { ⌜ Placed shape (entriesOf (now schedule)) ⌝ }
-    ensures { λ r. ⌜ asVerdict r ≡
-        judgedClaim (instanceOf shape (now (job .entry))) (scheduleOf shape (now (schedule .entry))) (asClaim claim) ⌝ }
+// The verdict from 18 on: the claim made against the true one.
+fn judge_claim(claim: Claim, own: Claim) -> Verdict
+    ensures { λ r. ⌜ asVerdict r ≡ memoryByFirst none (asClaim claim) (asClaim own) ⌝ }
 {
-    if same_claim(claim, true_claim(shape, job, schedule)) {
+    if same_claim(claim, own) {
         return Verdict::accepted(claim);
     }
     Verdict::refused(Verdict::UNTRUE, 0)
 }
 
-// The verdict from 17 on.
+// The verdict from 17 on, of a schedule free of 16.
 fn judge_memory<'a>(
     shape: Shape,
     job: &'a [u64; layout::JOB],
     schedule: &'a [u64; layout::SCHEDULE],
     claim: Claim,
 ) -> Verdict
+    requires { ⌜ WellFormed (instanceOf shape (now job)) ⌝ }
     requires { ⌜ InBounds shape (now job) (now schedule) ⌝ }
     requires { ⌜ Placed shape (entriesOf (now schedule)) ⌝ }
+    requires { ⌜ AllOnTime (instanceOf shape (now job)) (scheduleOf shape (now schedule)) ⌝ }
     ensures { λ r. ⌜ asVerdict r ≡
         judgedMemory (instanceOf shape (now (job .entry))) (scheduleOf shape (now (schedule .entry))) (asClaim claim) ⌝ }
 {
-    let last = settled(shape, job, schedule);
-    let t = first_over(shape, job, schedule, last);
-    if t < last {
+    let found = walk_memories(shape, job, schedule);
+    let over = found.over;
+    if let Over::At(t) = over {
         return Verdict::refused(Verdict::OVER_LIMIT, t);
     }
-    judge_claim(shape, job, schedule, claim)
+    let own = Claim {
+        span: makespan(shape, job, schedule),
+        blue_peak: found.blue_peak,
+        red_peak: found.red_peak,
+    };
+    judge_claim(claim, own)
 }
 
 // The verdict from 16 on.
@@ -113,6 +115,7 @@ fn judge_timing<'a>(
     schedule: &'a [u64; layout::SCHEDULE],
     claim: Claim,
 ) -> Verdict
+    requires { ⌜ WellFormed (instanceOf shape (now job)) ⌝ }
     requires { ⌜ InBounds shape (now job) (now schedule) ⌝ }
     requires { ⌜ Placed shape (entriesOf (now schedule)) ⌝ }
     ensures { λ r. ⌜ asVerdict r ≡
@@ -132,6 +135,7 @@ pub fn judge<'a>(
     schedule: &'a [u64; layout::SCHEDULE],
     claim: Claim,
 ) -> Verdict
+    requires { ⌜ WellFormed (instanceOf shape (now job)) ⌝ }
     requires { ⌜ InBounds shape (now job) (now schedule) ⌝ }
     requires { ⌜ Placed shape (entriesOf (now schedule)) ⌝ }
     ensures { λ r. ⌜ asVerdict r ≡

@@ -32,7 +32,7 @@ judge-requires c κs =
     let r = was-read (instanceFrom b J) (s .args .paper .now) (scheduleFrom b L) (c .before .before .before .before .read .result)
     (c .before .before .before .before .read .ensures) (c .before .before .claim .given .1) in
     let p = read-spellable b J L _ (s .args .paper .now) r in
-    (record { job = job-bounds b J (s .pre); schedule = spelled-bounds b J L _ p }, spelled-placed b J L _ p)
+    (s .pre, (record { job = job-bounds b J (s .pre); schedule = spelled-bounds b J L _ p }, spelled-placed b J L _ p))
 
 returns : tie.Need-returns
 returns c =

@@ -2,7 +2,8 @@
 use Prim.Native.Nat.{_≤_, _-_}
 use native.Mathlib.Omega.{arith}
 use Rattle.model.specs.Layout.{jobOf, entriesOf, instanceFrom, scheduleFrom}
-use Rattle.simulator.proofs.StepLaws.{Reached, begins, goes, walk-barred, walk-reaches, placed-complete, onto-ahead, barred-ahead}
+use Rattle.model.proofs.LayoutLaws.{placed-complete}
+use Rattle.simulator.proofs.StepLaws.{Reached, begins, goes, walk-barred, walk-reaches, onto-ahead, barred-ahead}
 use borrow.Author.Needs.{needs}
 use Rattle.simulator.proofs.walk.watch.Statement.{statement}
 use Rattle.simulator.proofs.walk.watch.Tie as tie

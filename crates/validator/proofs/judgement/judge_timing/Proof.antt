@@ -2,7 +2,7 @@
 use Rattle.model.specs.Layout.{jobOf, entriesOf, instanceFrom, scheduleFrom}
 use Rattle.model.proofs.LayoutLaws.{task-count}
 use Rattle.model.specs.Claims.{asClaim}
-use Rattle.validator.proofs.JudgeSteps.{judge-16, timing-on}
+use Rattle.validator.proofs.JudgeSteps.{judge-16, timing-on, timely}
 use borrow.Author.Needs.{needs}
 use Rattle.validator.proofs.judgement.judge_timing.Statement.{statement}
 use Rattle.validator.proofs.judgement.judge_timing.Tie as tie
@@ -24,7 +24,11 @@ returns c = let s = c .before .before .before in
     judge-16 I P (asClaim (s .args .claim)) (c .before .before .first-early .ensures) n (c .refused .ensures) (c .before .if1 .taken)
 
 judge-memory-requires : tie.Need-judge-memory-requires
-judge-memory-requires c κs = search needs
+judge-memory-requires c κs = let s = c .before .before in
+    let I = instanceFrom (s .args .shape) (jobOf (s .args .job .now)) in
+    let P = scheduleFrom (s .args .shape) (entriesOf (s .args .schedule .now)) in
+    let n = task-count (s .args .shape) (jobOf (s .args .job .now)) in
+    (s .pre .0, (s .pre .1 .0, (s .pre .1 .1, timely I (s .pre .0) P (c .before .first-early .ensures) n (c .if1 .left))))
 
 returns-2 : tie.Need-returns-2
 returns-2 c = let s = c .before .before .before in

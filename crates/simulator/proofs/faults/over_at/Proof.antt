@@ -1,8 +1,8 @@
 -- `over_at` meets its contract.
-use Rattle.validator.proofs.Loops.{over-yes, over-rest}
+use Rattle.simulator.proofs.FaultLaws.{over-yes, over-rest}
 use borrow.Author.Needs.{needs}
-use Rattle.validator.proofs.memory.over_at.Statement.{statement}
-use Rattle.validator.proofs.memory.over_at.Tie as tie
+use Rattle.simulator.proofs.faults.over_at.Statement.{statement}
+use Rattle.simulator.proofs.faults.over_at.Tie as tie
 
 held-at-requires : tie.Need-held-at-requires
 held-at-requires c κs = search needs
