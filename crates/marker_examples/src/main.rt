@@ -1,9 +1,12 @@
-// Timetables marked: examples e to m of document 01, papers that neither MemHEFT nor MemMinMin would make, and each refusal.
+// Timetables marked: examples e to m of document 01, papers that neither MemHEFT nor MemMinMin would make, each refusal, and peaks by changes.
+mod changes;
+
+use changes::by_changes;
 use console::print_number;
 use libc::STDOUT_FILENO;
 
 // Prints what is shown, the verdict, and the line at fault.
-fn show<'a>(what: &'a [u8], sheet: &'a [u8], paper: &'a [u8]) {
+pub fn show<'a>(what: &'a [u8], sheet: &'a [u8], paper: &'a [u8]) {
     let v = frames::mark(sheet, paper);
     io::write_all(STDOUT_FILENO, what);
     io::write_all(STDOUT_FILENO, b":");
@@ -193,4 +196,5 @@ fn main() {
     unusual();
     text_faults();
     order_of_refusals();
+    by_changes();
 }
