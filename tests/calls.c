@@ -445,15 +445,19 @@ static size_t stack_of(void *(*call)(void *)) {
     return sizeof stack - untouched;
 }
 
-/* What a call on the largest sheet uses beyond what an empty thread does. */
-static size_t measured(const char *what, void *(*call)(void *)) {
+/* What a call on the largest sheet uses beyond what an empty thread does; no more than `most`. */
+static size_t measured_within(size_t most, const char *what, void *(*call)(void *)) {
     last[0] = 99;
     size_t used = stack_of(call) - stack_of(call_nothing);
-    if (last[0] != 0 || used > FRAMES_STACK) {
+    if (last[0] != 0 || used > most) {
         printf("%s: answered %llu, with %zu bytes of stack\n", what, (unsigned long long)last[0], used);
         exit(1);
     }
     return used;
+}
+
+static size_t measured(const char *what, void *(*call)(void *)) {
+    return measured_within(FRAMES_STACK, what, call);
 }
 
 static void stacks(void) {
@@ -465,7 +469,8 @@ static void stacks(void) {
         printf(", %s %zu", planners[i].name, measured(planners[i].name, call_planner));
     }
     printf(", simulator %zu", measured("frames_simulate", call_simulate));
-    printf(", converter %zu, stripping %zu\n", measured("frames_convert", call_convert), measured("frames_strip", call_strip));
+    printf(", converter %zu", measured("frames_convert", call_convert));
+    printf(", stripping %zu\n", measured_within(FRAMES_STRIP_STACK, "frames_strip", call_strip));
 }
 
 /* Calls on several threads at once give what each gives alone. */

@@ -1,5 +1,6 @@
-//! An independent implementation of document 01 with Orders 1 to 7, for tests, and texts by chance to compare it on.
+//! An independent implementation of document 01 with Orders 1 to 8, for tests, and texts by chance to compare it on.
 
+pub mod changes;
 pub mod colours;
 pub mod conversion;
 pub mod conversion_edges;
@@ -14,6 +15,7 @@ pub mod plans;
 pub mod reference;
 pub mod relays;
 pub mod simulation;
+pub mod sorting;
 pub mod stepping;
 pub mod traces;
 pub mod widths;

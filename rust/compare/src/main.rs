@@ -1,10 +1,11 @@
-//! Compares the proved library with an implementation of its own of document 01 with Orders 1 to 7, on sound and damaged texts from
+//! Compares the proved library with an implementation of its own of document 01 with Orders 1 to 8, on sound and damaged texts from
 //! a fixed seed, and short timetables also with what the memories hold at each tick. All that is marked is simulated too. Prints how often
 //! each answer was reached, what was answered to timetables with relays, how often each of the four cases of maker and reader was met,
 //! what the simulator answered, what the plain planners did beside the memory-aware ones, which marks are others than by the limits
-//! before Order 5, how often the same job was planned in finer ticks, what working memory led to, and what the converter answered. Ends
-//! with an error at the first difference, where an answer or a case was never reached, or where relays were marked as the rules do not
-//! allow.
+//! before Order 5, how often the same job was planned in finer ticks, what working memory led to, what the converter answered, how often
+//! Order 8's peaks from changes were held against those counted instant by instant, and how often the marker of rust/baseline gave the
+//! library's answer. Ends with an error at the first difference, where an answer or a case was never reached, or where relays were marked
+//! as the rules do not allow.
 
 use compare::generate::{self, Random, WORK_FAULTS};
 use compare::library::{self, Answered};
@@ -12,7 +13,9 @@ use compare::reference::{
     self, Heuristic, Memory, Planned, Planner, Sheet, Table, MAX_TEXT, PLANNERS,
 };
 use compare::relays::{self, has_relays};
-use compare::{colours, converting, finer, plain, stepping, widths, work_promises};
+use compare::{
+    changes, colours, converting, finer, plain, sorting, stepping, widths, work_promises,
+};
 use std::collections::{BTreeMap, BTreeSet};
 use Heuristic::{Heft, MinMin};
 use Memory::{Aware, Plain};
@@ -33,6 +36,8 @@ struct Tally {
     finer: finer::Counts,
     work: work_promises::Counts,
     converter: converting::Counts,
+    changes: changes::Counts,
+    sorting: sorting::Counts,
     cases: u64,
 }
 
@@ -80,6 +85,7 @@ impl Tally {
         same(self.widths.marked(sheet, paper, got), sheet, paper);
         same(self.work.marked(sheet, paper, got), sheet, paper);
         same(self.converter.marked(sheet, paper, got), sheet, paper);
+        same(self.sorting.marked(sheet, paper, got), sheet, paper);
         got
     }
 
@@ -185,6 +191,9 @@ fn edges(t: &mut Tally) {
     t.mark(b"", b"");
     t.mark(COURSE, b"");
     t.mark(COURSE, PAPER);
+    for sheet in [COURSE, WITH_WORK] {
+        same(t.sorting.each_byte(sheet, PAPER), sheet, PAPER);
+    }
 }
 
 /// A sound sheet; two in five have relays, and two in five W.
@@ -406,12 +415,50 @@ fn finer_ticks(t: &mut Tally, rounds: u64) {
     }
 }
 
+/// Whether peaks from changes are those counted instant by instant, on a timetable.
+fn peaks_of(t: &mut Tally, r: &mut Random, sheet: &Sheet, table: &Table) {
+    let found = t.changes.timetable(r, sheet, table);
+    let [text, paper] = [
+        generate::write_sheet(sheet),
+        generate::write_paper(sheet, table),
+    ];
+    same(found, text.as_bytes(), paper.as_bytes());
+}
+
+/// Timetables of the planners and by chance, with relays put elsewhere, put off, and moved about.
+fn peaks_from_changes(t: &mut Tally, rounds: u64) {
+    let mut r = Random(8);
+    for number in 0..rounds {
+        let plain = generate::sheet(&mut r, if number.is_multiple_of(100) { 64 } else { 7 });
+        let sheet = drawn(&mut r, plain);
+        let read = reference::read_sheet(&sheet).expect("a sound sheet");
+        let table = planned_table(&mut r, &sheet, &read);
+        let relay = generate::put_relay(&mut r, &read, &table);
+        let last = generate::put_last(&mut r, &read, &relay);
+        let late = generate::late(&mut r, &read, &last);
+        let moved = generate::moved_about(&mut r, &read, &table);
+        for table in [table, late, moved] {
+            peaks_of(t, &mut r, &read, &table);
+        }
+    }
+    for (sheet, paper) in [
+        generate::all_moved(),
+        generate::all_apart(),
+        generate::all_apart_with_work(),
+    ] {
+        let read = reference::read_sheet(&sheet).expect("a sound sheet");
+        let (table, _) = reference::read_table(&read, &paper).expect("a sound timetable");
+        peaks_of(t, &mut r, &read, &table);
+    }
+}
+
 /// The traces worked by hand, the known plans and marks, and timetables that move every file, step by step.
 fn by_hand(t: &mut Tally) {
     let traces = t.simulator.by_hand();
     let plans = traces.and(t.plain.by_hand());
     let marks = plans.and(t.widths.by_hand()).and(t.work.by_hand());
-    if let Err(difference) = marks.and(t.converter.by_hand()) {
+    let answers = marks.and(t.converter.by_hand());
+    if let Err(difference) = answers.and(t.sorting.by_hand()) {
         panic!("{difference}");
     }
     for (sheet, paper) in [generate::all_moved(), generate::all_apart()] {
@@ -435,6 +482,7 @@ fn compare_all(rounds: u64) -> Tally {
         moved_papers(&mut t, &mut r, number);
     }
     finer_ticks(&mut t, rounds / 5);
+    peaks_from_changes(&mut t, rounds);
     by_hand(&mut t);
     t
 }
@@ -460,6 +508,8 @@ fn main() {
     t.finer.print();
     t.work.print();
     t.converter.print();
+    t.changes.print();
+    t.sorting.print();
     println!("{} cases, no difference", t.cases);
     let mut faults = [t.relays.faults(), t.colours.faults()].concat();
     faults.extend(t.simulator.faults());
@@ -468,6 +518,8 @@ fn main() {
     faults.extend(t.finer.faults());
     faults.extend(t.work.faults());
     faults.extend(t.converter.faults());
+    faults.extend(t.changes.faults());
+    faults.extend(t.sorting.faults());
     if !ok {
         faults.push("an answer was never reached".to_string());
     }
