@@ -9,18 +9,20 @@ use borrow.Author.Tests.{eq-eqb, ne-eqb, le-leb, lt-leb}
 use lib.ListN.{length, take, drop, length-take, length-drop, drop-of-length-le}
 use Rattle.rules.specs.Limits.{maxText}
 use Rattle.rules.specs.Model.{Instance}
-use Rattle.rules.specs.Text.{Fault, tooLong, malformed, Line, ended, unended, linesOf, wrong, right, due}
-use Rattle.rules.specs.InstanceText.{InstanceLine, refused, accepted, withBoard, withLine, instanceLineBy, instanceLine, readRestBy, readRest, readLinesBy, readLines, readInstanceBy, readInstance}
+use Rattle.rules.specs.Text.{Fault, tooLong, malformed, Line, ended, linesOf, wrong, right, due}
+use Rattle.rules.specs.InstanceText.{InstanceLine, refused, accepted, withBoard, withLine, instanceLine}
+use Rattle.rules.specs.InstanceText.{readRestBy, readRest, readLinesBy, readLines, readInstanceBy, readInstance}
+use Rattle.rules.proofs.LineLaws.{no-lines}
 use Rattle.rules.proofs.InstanceLineLaws.{line-says}
 use Rattle.text.specs.FirstLine.{firstLine}
-use Rattle.text.proofs.FirstLineLaws.{no-line, line-within, line-part, line-unended}
+use Rattle.text.proofs.FirstLineLaws.{no-line, line-part}
 use Rattle.model.specs.Layout.{jobOf, instanceFrom}
 use Rattle.model.specs.declared.layout.Shape.{Shape}
 use Rattle.model.proofs.LayoutLaws.{task-count}
 use Rattle.instance.specs.declared.line.Line.{Line as Parsed}
 use Rattle.instance.specs.declared.line.Line.the-variants.{Board, Task, File, Malformed, OutOfRange}
 use Rattle.instance.specs.declared.build.Step.{Step}
-use Rattle.instance.specs.Lines.{asReading, Numbered}
+use Rattle.instance.specs.Lines.{asReading, Numbered, firstSays, Held, NextLine}
 use Rattle.instance.specs.Steps.{Room, asStep}
 
 -- the task numbers of a line that was read are in their range
@@ -30,6 +32,9 @@ numbered (Task i b r w) l e = line-says (ended l) _ (sym e) .2 .ranged .0
 numbered (File i j f c) l e = let r = line-says (ended l) _ (sym e) .2 .ranged in (r .0, r .1)
 numbered Malformed l e = tt
 numbered OutOfRange l e = tt
+
+pub line-held : {text line found : List ℕ} → NextLine text line found → (length line ≡ 0 → ⊥) → Held text line found
+line-held o h = o .taken (omega arith)
 
 -- what a step gave, of the line's bytes
 pub told : (f : InstanceLine → Option Instance) (p : Parsed) (l : List ℕ) (step known : Step) (ys : List ℕ) → asReading p ≡ instanceLine (ended l)
@@ -46,9 +51,9 @@ module _ (I : Instance) (k : ℕ) where
   unfolding readRestBy
   rest-right l ls J e = rw (e, readRestBy)
 
-  rest-unended : (l : List ℕ) (ls : List Line) → readRest I k (unended l ∷ ls) ≡ refused malformed k
-  unfolding readRestBy instanceLineBy
-  rest-unended l ls = refl
+  rest-unread : (ls : List Line) → firstSays ls ≡ wrong malformed → (ls ≡ [] → ⊥) → readRest I k ls ≡ refused malformed k
+  rest-unread [] e h = absurd (h refl)
+  rest-unread (l ∷ ls) e h = rest-wrong l ls malformed (ap (due (withLine I)) e)
 
 lines-wrong : (l : Line) (ls : List Line) (w : Fault) → due withBoard (instanceLine l) ≡ wrong w → readLines (l ∷ ls) ≡ refused w 1
 unfolding readLinesBy
@@ -58,10 +63,10 @@ lines-right : (l : Line) (ls : List Line) (I : Instance) → due withBoard (inst
 unfolding readLinesBy
 lines-right l ls I e = rw (e, readLinesBy)
 
-one-line : (sheet : List ℕ) → length (firstLine sheet) ≡ length sheet → readLines (linesOf sheet) ≡ refused malformed 1
-unfolding readLinesBy instanceLineBy
-one-line [] l = rw no-line
-one-line (b ∷ sheet) l = rw (line-unended (b ∷ sheet) (omega arith) l)
+lines-unread : (ls : List Line) → firstSays ls ≡ wrong malformed → readLines ls ≡ refused malformed 1
+unfolding readLinesBy
+lines-unread [] e = refl
+lines-unread (l ∷ ls) e = lines-wrong l ls malformed (ap (due withBoard) e)
 
 -- ---- the loop over the lines behind the board's
 pub record Reading (begun : Shape) (sheet old : List ℕ) (shape : Shape) (xs rest : List ℕ) (k : ℕ) : Type 0 where
@@ -73,16 +78,14 @@ pub reading-start : (begun : Shape) (sheet old : List ℕ) → Room begun → Re
 reading-start begun sheet old r = record { room = r; places = omega arith; left = refl }
 
 module _ {begun : Shape} {sheet old : List ℕ} {shape : Shape} {xs rest : List ℕ} {k : ℕ} (inv : Reading begun sheet old shape xs rest k) where
-  -- a line without its LF
-  pub reading-unended : (line : List ℕ) → line ≡ firstLine rest → 0 < length rest → length line ≡ length rest
+  -- a line that is malformed
+  pub reading-unread : 0 < length rest → {line found : List ℕ} → NextLine rest line found → length line ≡ 0
       → refused malformed k ≡ readRest (instanceFrom begun (jobOf old)) 2 (linesOf sheet)
-  reading-unended line e h l = sym (inv .left ∙ rw (line-unended rest h (rw e at l)) (rest-unended _ k rest []))
+  reading-unread h o z =
+      sym (inv .left ∙ rest-unread _ k (linesOf rest) (o .missed z) (λ e. omega (arith, ap length (no-lines rest e))))
 
-  -- a line with its LF
-  module _ {line : List ℕ} (e : line ≡ firstLine rest) (h : length line ≡ length rest → ⊥) where
-    pub line-short : length line < length rest
-    line-short = omega (arith, line-within rest, ap length e)
-
+  -- a line that was cut
+  module _ {line : List ℕ} (e : line ≡ firstLine rest) (line-short : length line < length rest) where
     turn : (ls : _) → ls ≡ linesOf (take (length rest - (length line + 1)) (drop (length line + 1) rest))
         → readRest (instanceFrom begun (jobOf old)) 2 (linesOf sheet) ≡ readRest (instanceFrom shape (jobOf xs)) k (ended line ∷ ls)
     turn ls q = inv .left ∙ rw (line-part rest line e line-short, q)
@@ -125,17 +128,13 @@ module _ (sheet : List ℕ) where
     unfolding readInstanceBy
     by-lines = rw (le-leb _ _ h, readInstanceBy)
 
-    module _ (line : List ℕ) (e : line ≡ firstLine sheet) where
-      pub sheet-unended : length line ≡ length sheet → refused malformed 1 ≡ readInstance sheet
-      sheet-unended l = sym (by-lines ∙ one-line sheet (rw e at l))
+    pub sheet-unread : {line found : List ℕ} → NextLine sheet line found → length line ≡ 0 → refused malformed 1 ≡ readInstance sheet
+    sheet-unread o z = sym (by-lines ∙ lines-unread (linesOf sheet) (o .missed z))
 
-      module _ (l : length line ≡ length sheet → ⊥) where
-        pub first-short : length line < length sheet
-        first-short = omega (arith, line-within sheet, ap length e)
+    module _ {line : List ℕ} (e : line ≡ firstLine sheet) (first-short : length line < length sheet) where
+      pub sheet-refused : (w : Fault) → wrong w ≡ due withBoard (instanceLine (ended line)) → refused w 1 ≡ readInstance sheet
+      sheet-refused w d = sym (by-lines ∙ rw (line-part sheet line e first-short) (lines-wrong (ended line) _ w (sym d)))
 
-        pub sheet-refused : (w : Fault) → wrong w ≡ due withBoard (instanceLine (ended line)) → refused w 1 ≡ readInstance sheet
-        sheet-refused w d = sym (by-lines ∙ rw (line-part sheet line e first-short) (lines-wrong (ended line) _ w (sym d)))
-
-        pub sheet-begun : (I : Instance) → right I ≡ due withBoard (instanceLine (ended line))
-            → readRest I 2 (linesOf (take (length sheet - (length line + 1)) (drop (length line + 1) sheet))) ≡ readInstance sheet
-        sheet-begun I d = sym (by-lines ∙ rw (line-part sheet line e first-short) (lines-right (ended line) _ I (sym d)))
+      pub sheet-begun : (I : Instance) → right I ≡ due withBoard (instanceLine (ended line))
+          → readRest I 2 (linesOf (take (length sheet - (length line + 1)) (drop (length line + 1) sheet))) ≡ readInstance sheet
+      sheet-begun I d = sym (by-lines ∙ rw (line-part sheet line e first-short) (lines-right (ended line) _ I (sym d)))

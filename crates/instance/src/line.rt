@@ -3,14 +3,13 @@ ghost use mathlib.Core.Path.{_≡_};
 ghost use mathlib.Core.List.{[], _∷_};
 ghost use Rattle.rules.specs.Limits.{taskNumbers, runTimes, inRange};
 ghost use mathlib.Core.Bool.{_&&_};
-ghost use Rattle.rules.specs.Text.{ended, ifInRange};
-ghost use Rattle.rules.specs.InstanceText.{taskLine, asBoard, asWork, asFile, instanceLine};
-ghost use Rattle.instance.specs.Lines.{asReading};
+ghost use Rattle.rules.specs.Text.{ifInRange};
+ghost use Rattle.rules.specs.InstanceText.{taskLine, asBoard, asWork, asFile};
+ghost use Rattle.instance.specs.Lines.{asReading, saidBy, NextLine};
 use rules::Board;
 use rules::Checked;
 use rules::Side;
 use rules::between;
-use text::Numbers;
 
 // The forms; `#` stands for a number. A task with W has the third.
 pub const BOARD_FORM: [u8; 28] = *b"(board (blue # #) (red # #))";
@@ -20,6 +19,28 @@ pub const TASK_FORM: [u8; 12] = *b"(task # # #)";
 pub const WORK_FORM: [u8; 14] = *b"(task # # # #)";
 
 pub const FILE_FORM: [u8; 14] = *b"(file # # # #)";
+
+// The same in two parts: a word, and the numbers.
+const BOARD_WORD: [u8; 13] = *b"(board (blue ";
+
+const TASK_WORD: [u8; 6] = *b"(task ";
+
+const FILE_WORD: [u8; 6] = *b"(file ";
+
+const BOARD_NUMBERS: [u8; 15] = *b"# #) (red # #))";
+
+const THREE_NUMBERS: [u8; 6] = *b"# # #)";
+
+const FOUR_NUMBERS: [u8; 8] = *b"# # # #)";
+
+// The forms' numbers.
+const BOARD: u64 = 1;
+
+const TASK: u64 = 2;
+
+const WORK: u64 = 3;
+
+const FILE: u64 = 4;
 
 // What a line says, or its fault. A task's `work` is 0 where W is left out.
 pub enum Line {
@@ -121,42 +142,41 @@ fn file_of(i: u64, j: u64, size: u64, time: u64) -> Line
     Line::File { i, j, size, time }
 }
 
-// What a line says, by the form that it has.
-pub fn parse(line: &[u8]) -> Line
-    ensures { λ r. ⌜ asReading r ≡ instanceLine (ended (now (line .entry))) ⌝ }
+// The next line of a text, without its LF, by the form that it has; no bytes where it has none, lacks its LF or is
+// absent. `found` then holds the form's number and the line's numbers.
+pub fn next_line<'a>(sheet: &'a [u8], found: &mut [u64; 5]) -> &'a [u8]
+    ensures { λ r. ⌜ NextLine (now (sheet .entry)) (now r) (now (found .exit)) ⌝ }
 {
-    if let Numbers::Are {
-        first,
-        second,
-        third,
-        fourth,
-    } = text::scan(&BOARD_FORM, line) {
-        return board_of(first, second, third, fourth);
+    let file = text::line_by(&FILE_WORD, &FOUR_NUMBERS, sheet, FILE, found);
+    if 0 < file.len() {
+        return file;
     }
-    if let Numbers::Are {
-        first,
-        second,
-        third,
-        fourth: _,
-    } = text::scan(&TASK_FORM, line) {
-        return task_of(first, second, third, 0);
+    let task = text::line_by(&TASK_WORD, &THREE_NUMBERS, sheet, TASK, found);
+    if 0 < task.len() {
+        return task;
     }
-    if let Numbers::Are {
-        first,
-        second,
-        third,
-        fourth,
-    } = text::scan(&WORK_FORM, line) {
-        return work_of(first, second, third, fourth);
+    let work = text::line_by(&TASK_WORD, &FOUR_NUMBERS, sheet, WORK, found);
+    if 0 < work.len() {
+        return work;
     }
-    let Numbers::Are {
-        first,
-        second,
-        third,
-        fourth,
-    } = text::scan(&FILE_FORM, line)
-    else {
-        return Line::Malformed;
-    };
-    file_of(first, second, third, fourth)
+    text::line_by(&BOARD_WORD, &BOARD_NUMBERS, sheet, BOARD, found)
+}
+
+// What the numbers found say.
+pub fn line_of(found: &[u64; 5]) -> Line
+    ensures { λ r. ⌜ asReading r ≡ saidBy (now (found .entry)) ⌝ }
+{
+    if found[0] == FILE {
+        return file_of(found[1], found[2], found[3], found[4]);
+    }
+    if found[0] == TASK {
+        return task_of(found[1], found[2], found[3], 0);
+    }
+    if found[0] == WORK {
+        return work_of(found[1], found[2], found[3], found[4]);
+    }
+    if found[0] == BOARD {
+        return board_of(found[1], found[2], found[3], found[4]);
+    }
+    Line::Malformed
 }

@@ -11,7 +11,8 @@ ghost use Rattle.instance.specs.Reads.{asRead};
 use crate::build::Step;
 use crate::build::add;
 use crate::build::first;
-use crate::line::parse;
+use crate::line::line_of;
+use crate::line::next_line;
 use model::layout;
 use model::layout::Shape;
 use rules::Board;
@@ -33,11 +34,12 @@ fn rest_of(begun: Shape, sheet: &[u8], job: &mut [u64; layout::JOB]) -> Instance
     let mut rest = sheet;
     let mut k: u64 = 2;
     while 0 < rest.len() {
-        let line = text::first_line(rest);
-        if line.len() == rest.len() {
+        let mut found = [0u64; 5];
+        let line = next_line(rest, &mut found);
+        if line.len() == 0 {
             return InstanceRead::Refused(Fault::Malformed, k);
         }
-        match add(shape, job, parse(line)) {
+        match add(shape, job, line_of(&found)) {
             Step::Refused(fault) => {
                 return InstanceRead::Refused(fault, k);
             }
@@ -62,11 +64,12 @@ pub fn read(sheet: &[u8], job: &mut [u64; layout::JOB]) -> InstanceRead
     if Board::MAX_TEXT < sheet.len() {
         return InstanceRead::Refused(Fault::TooLong, 0);
     }
-    let line = text::first_line(sheet);
-    if line.len() == sheet.len() {
+    let mut found = [0u64; 5];
+    let line = next_line(sheet, &mut found);
+    if line.len() == 0 {
         return InstanceRead::Refused(Fault::Malformed, 1);
     }
-    match first(parse(line)) {
+    match first(line_of(&found)) {
         Step::Refused(fault) => InstanceRead::Refused(fault, 1),
         Step::Next(shape) => {
             *job = [0; layout::JOB];

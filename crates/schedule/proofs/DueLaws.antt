@@ -12,14 +12,15 @@ use lib.ListN.{drop}
 use Rattle.rules.specs.Model.{Instance, taskCount, fileCount, fileAt, Run, Schedule, moved}
 use Rattle.rules.specs.Validity.{Claim}
 use Rattle.rules.specs.Text.{Fault, malformed, Line, linesOf, Reading, wrong, right, due, faultOf}
-use Rattle.rules.specs.ScheduleText.{ScheduleLine, scheduleLine, runOf, moveOf, claimOf, ScheduleRead, refused, readEndBy, readEnd, readClaimBy, readClaim, readMovesBy, readMoves, readRunsBy, readRuns}
+use Rattle.rules.specs.ScheduleText.{ScheduleLine, scheduleLine, runOf, moveOf, claimOf, ScheduleRead, refused}
+use Rattle.rules.specs.ScheduleText.{readEndBy, readEnd, readClaimBy, readClaim, readMovesBy, readMoves, readRunsBy, readRuns}
 use Rattle.rules.specs.ScheduleText.{withRun, withMove}
 use Rattle.rules.proofs.ReadingLaws.{wrong-right}
 use Rattle.schedule.proofs.lines.Line.{the-type}
 use Rattle.schedule.specs.declared.lines.Line.{Line as Said}
 use Rattle.schedule.specs.declared.lines.Line.the-variants as Code
-use Rattle.schedule.specs.Lines.{asReading}
-use Rattle.schedule.specs.Reading.{LineAt, absent, there}
+use Rattle.schedule.specs.Lines.{asReading, firstSays}
+use Rattle.schedule.specs.Reading.{LineAt, unread, there}
 
 -- what was read is refused, or `rest` goes on with it
 abbrev after : {A : Type 0} → ℕ → (A → List Line → ScheduleRead) → List Line → Reading A → ScheduleRead
@@ -30,17 +31,23 @@ abbrev onDue : {A : Type 0} → Instance → (ScheduleLine → Option A) → ℕ
 onDue I f k rest [] = refused malformed k
 onDue I f k rest (l ∷ ls) = after k rest ls (due f (scheduleLine I l))
 
+-- the first line is malformed, or there is none
+due-unread : {A : Type 0} (I : Instance) (f : ScheduleLine → Option A) (k : ℕ) (rest : A → List Line → ScheduleRead) (ls : List Line)
+    → firstSays I ls ≡ wrong malformed → onDue I f k rest ls ≡ refused malformed k
+due-unread I f k rest [] e = refl
+due-unread I f k rest (l ∷ ls) e = ap (after k rest ls) (ap (due f) e)
+
 module _ {A : Type 0} {I : Instance} {bs : List ℕ} {at : ℕ} {x : Reading ScheduleLine} {next : ℕ} (f : ScheduleLine → Option A) (k : ℕ)
     (rest : A → List Line → ScheduleRead) where
   due-wrong : LineAt I bs at x next → (w : Fault) → due f x ≡ wrong w → onDue I f k rest (linesOf (drop at bs)) ≡ refused w k
-  due-wrong (absent e q) w h =
+  due-wrong (unread e q) w h =
       let p : wrong malformed ≡ wrong w = ap (due f) (sym q) ∙ h in
       let z : malformed ≡ w = cc in
-      ap (onDue I f k rest) e ∙ ap (λ (v : Fault). refused v k) z
+      due-unread I f k rest (linesOf (drop at bs)) e ∙ ap (λ (v : Fault). refused v k) z
   due-wrong (there l e q) w h = ap (onDue I f k rest) e ∙ ap (after k rest (linesOf (drop next bs))) (ap (due f) (sym q) ∙ h)
 
   due-right : LineAt I bs at x next → (a : A) → due f x ≡ right a → onDue I f k rest (linesOf (drop at bs)) ≡ rest a (linesOf (drop next bs))
-  due-right (absent e q) a h = let p : wrong malformed ≡ right a = ap (due f) (sym q) ∙ h in wrong-right p
+  due-right (unread e q) a h = let p : wrong malformed ≡ right a = ap (due f) (sym q) ∙ h in wrong-right p
   due-right (there l e q) a h = ap (onDue I f k rest) e ∙ ap (after k rest (linesOf (drop next bs))) (ap (due f) (sym q) ∙ h)
 
 -- ---- the three due lines
@@ -78,6 +85,12 @@ module _ (I : Instance) (P : Schedule) (k : ℕ) where
   unfolding readClaimBy
   claim-due [] = refl
   claim-due (l ∷ ls) = refl
+
+end-unread : (I : Instance) (P : Schedule) (c : Claim) (k : ℕ) (ls : List Line) → firstSays I ls ≡ wrong malformed → (ls ≡ [] → ⊥)
+    → readEnd I P c k ls ≡ refused malformed k
+unfolding readEndBy
+end-unread I P c k [] e h = absurd (h refl)
+end-unread I P c k (l ∷ ls) e h = rw (e, readEndBy)
 
 -- ---- as the code counts: task i, file f
 module _ {I : Instance} {bs : List ℕ} {at : ℕ} {x : Reading ScheduleLine} {next : ℕ} (o : LineAt I bs at x next) (P : Schedule) (k : ℕ) where
@@ -121,7 +134,7 @@ module _ {I : Instance} {bs : List ℕ} {at : ℕ} {x : Reading ScheduleLine} {n
   end-refused c h = go o
     where
       go : LineAt I bs at x next → readEnd I P c k (linesOf (drop at bs)) ≡ refused (faultOf x) k
-      go (absent e q) = absurd (h e)
+      go (unread e q) = end-unread I P c k (linesOf (drop at bs)) e h ∙ rw q
       go (there l e q) = rw (e, q, readEndBy)
 
 pub move-passed : (I : Instance) (P : Schedule) (k f : ℕ) → f < fileCount I → moved I P f ≡ false → (ls : List Line)

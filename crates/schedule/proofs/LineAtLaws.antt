@@ -1,45 +1,33 @@
 -- The line that starts at a place of a text, as the code cuts it.
 use Prim.Native.Nat.{ℕ, _+_, _-_, _≤_, _<_}
-use mathlib.Core.Path.{_≡_, refl, ap, _∙_}
+use mathlib.Core.Path.{_≡_, refl, _∙_}
 use mathlib.Core.List.{List}
 use native.Mathlib.Omega.{arith}
-use lib.ListN.{length, take, drop, length-drop, drop-of-length-le}
-use lib.Seq.{drop-drop, drop-length}
+use lib.ListN.{length, take, drop, length-drop}
+use lib.Seq.{drop-drop}
 use Rattle.rules.specs.Model.{Instance}
-use Rattle.rules.specs.Text.{ended, unended, linesOf, Reading, wrong, malformed}
-use Rattle.rules.specs.ScheduleText.{ScheduleLine, scheduleLineBy, scheduleLine}
-use Rattle.rules.proofs.Tests.{by-order}
-use Rattle.text.specs.FirstLine.{firstLine}
+use Rattle.rules.specs.Text.{ended, Reading, wrong, malformed}
+use Rattle.rules.specs.ScheduleText.{ScheduleLine}
 use Rattle.text.proofs.PartLaws.{tail-part}
-use Rattle.text.proofs.FirstLineLaws.{no-line, line-within, line-behind, line-unended}
-use Rattle.schedule.specs.Reading.{LineAt, absent, there}
+use Rattle.text.proofs.FirstLineLaws.{line-behind}
+use Rattle.schedule.specs.Lines.{saidBy, NextLine}
+use Rattle.schedule.specs.Reading.{LineAt, unread, there}
 
-unended-wrong : (I : Instance) (l : List ℕ) → wrong malformed ≡ scheduleLine I (unended l)
-unfolding scheduleLineBy
-unended-wrong I l = refl
-
-module _ (bs line : List ℕ) (at : ℕ) (e : line ≡ firstLine (take (length bs - at) (drop at bs))) where
-  first : line ≡ firstLine (drop at bs)
-  first = e ∙ ap firstLine (tail-part bs at)
-
-  part-length : length (take (length bs - at) (drop at bs)) ≡ length (drop at bs)
-  part-length = ap length (tail-part bs at)
+module _ (bs line found : List ℕ) (at : ℕ) (o : NextLine (take (length bs - at) (drop at bs)) line found) where
+  next-on : NextLine (drop at bs) line found
+  next-on = rw (tail-part bs at) at o
 
   -- a line with its LF
-  pub cut-line : (I : Instance) → length line < length (take (length bs - at) (drop at bs)) → (x : Reading ScheduleLine) → x ≡ scheduleLine I (ended line)
-      → LineAt I bs at x (at + length line + 1)
-  cut-line I h x q =
-      let n : at + (length line + 1) ≡ at + length line + 1 = omega arith in
-      there (ended line) (line-behind (drop at bs) line first (omega (arith, part-length)) ∙ rw (drop-drop (length line + 1) at bs, n)) q
+  module _ (h : 0 < length line) where
+    pub cut-line : (I : Instance) (x : Reading ScheduleLine) → x ≡ saidBy I found → LineAt I bs at x (at + length line + 1)
+    cut-line I x q =
+        let t = next-on .taken h in
+        let n : at + (length line + 1) ≡ at + length line + 1 = omega arith in
+        there (ended line) (line-behind (drop at bs) line (t .first) (t .short) ∙ rw (drop-drop (length line + 1) at bs, n)) (q ∙ t .said I)
 
-  pub cut-within : length line < length (take (length bs - at) (drop at bs)) → at + length line + 1 ≤ length bs
-  cut-within h = omega (arith, part-length, length-drop at bs)
+    pub cut-within : at + length line + 1 ≤ length bs
+    cut-within = omega (arith, next-on .taken h .short, length-drop at bs)
 
-  -- none, or one without its LF
-  pub cut-no-line : (I : Instance) → length (take (length bs - at) (drop at bs)) ≤ length line → LineAt I bs at (wrong malformed) (length bs)
-  cut-no-line I h =
-      by-order 0 (length (drop at bs))
-      (λ p.
-      let n : length (firstLine (drop at bs)) ≡ length (drop at bs) = omega (arith, line-within (drop at bs), part-length, ap length first) in
-      there (unended (drop at bs)) (line-unended (drop at bs) p n ∙ rw (drop-length bs, no-line)) (unended-wrong I (drop at bs)))
-      (λ z. absent (ap linesOf (drop-of-length-le (drop at bs) {i = 0} z) ∙ no-line) refl)
+  -- one that is malformed, or none
+  pub cut-no-line : length line ≡ 0 → (I : Instance) (next : ℕ) → LineAt I bs at (wrong malformed) next
+  cut-no-line z I next = unread (next-on .missed z I) refl

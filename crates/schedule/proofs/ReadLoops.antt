@@ -17,7 +17,8 @@ use Rattle.rules.specs.Limits.{maxTasks}
 use Rattle.rules.specs.Model.{Instance, Schedule, taskCount, fileCount, moved}
 use Rattle.rules.specs.Text.{Fault, undue, Line, linesOf, Reading, wrong, right, due, faultOf}
 use Rattle.rules.specs.Validity.{Claim}
-use Rattle.rules.specs.ScheduleText.{ScheduleLine, runOf, moveOf, ScheduleRead, refused, read, readEndBy, readEnd, readClaim, readMovesBy, readMoves, readRunsBy, readRuns}
+use Rattle.rules.specs.ScheduleText.{ScheduleLine, runOf, moveOf, ScheduleRead, refused, read}
+use Rattle.rules.specs.ScheduleText.{readEndBy, readEnd, readClaim, readMovesBy, readMoves, readRunsBy, readRuns}
 use Rattle.rules.proofs.LineLaws.{no-lines}
 use Rattle.text.specs.declared.faults.Fault.{Fault as CodeFault}
 use Rattle.text.specs.Faults.{asFault}

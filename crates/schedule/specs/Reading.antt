@@ -18,15 +18,16 @@ use Rattle.schedule.specs.declared.reader.Progress.the-variants as Progr
 use Rattle.schedule.specs.declared.reader.MoveRead.{MoveRead}
 use Rattle.schedule.specs.declared.reader.MoveRead.the-variants as Move
 use Rattle.model.specs.Claims.{asClaim}
+use Rattle.schedule.specs.Lines.{firstSays}
 
 -- the answer, as the rules have it, with the schedule that the schedule then holds
 abbrev pub asRead : Schedule → ScheduleRead → Rules.ScheduleRead
 asRead P (Answer.Read c) = Rules.read P (asClaim c)
 asRead P (Answer.Refused f k) = Rules.refused (asFault f) k
 
--- what the line that starts at `at` says, and where the next one starts; an absent line is malformed
+-- what the line that starts at `at` says, and, unless it is malformed or absent, where the next one starts
 pub data LineAt (I : Instance) (bs : List ℕ) (at : ℕ) (x : Reading ScheduleLine) (next : ℕ) : Type 0 where
-  absent : linesOf (drop at bs) ≡ [] → x ≡ wrong malformed → LineAt I bs at x next
+  unread : firstSays I (linesOf (drop at bs)) ≡ wrong malformed → x ≡ wrong malformed → LineAt I bs at x next
   there : (l : Line) → linesOf (drop at bs) ≡ l ∷ linesOf (drop next bs) → x ≡ scheduleLine I l → LineAt I bs at x next
 
 -- a line is due from which `f` takes a move's start: the line that starts at `at` is taken or refused

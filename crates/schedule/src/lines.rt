@@ -2,17 +2,16 @@
 ghost use mathlib.Core.Path.{_≡_};
 ghost use mathlib.Core.Bool.{_&&_};
 ghost use mathlib.Core.List.{[], _∷_};
-ghost use Rattle.rules.specs.Text.{ended, faultOf};
-ghost use Rattle.rules.specs.ScheduleText.{asRun, asMove, asClaim as claimFrom, scheduleLine};
+ghost use Rattle.rules.specs.Text.{faultOf};
+ghost use Rattle.rules.specs.ScheduleText.{asRun, asMove, asClaim as claimFrom};
 ghost use Rattle.model.specs.Layout.{Job, instanceFrom, Processors};
 ghost use Rattle.text.specs.Faults.{asFault};
-ghost use Rattle.schedule.specs.Lines.{asReading};
+ghost use Rattle.schedule.specs.Lines.{asReading, saidBy, NextLine};
 use model::claim::Claim;
 use model::layout::Shape;
 use rules::Board;
 use rules::between;
 use text::Fault;
-use text::Numbers;
 
 // The three forms; `#` stands for a number.
 pub const RUN_FORM: [u8; 11] = *b"(run # # #)";
@@ -20,6 +19,22 @@ pub const RUN_FORM: [u8; 11] = *b"(run # # #)";
 pub const MOVE_FORM: [u8; 12] = *b"(move # # #)";
 
 pub const CLAIM_FORM: [u8; 13] = *b"(claim # # #)";
+
+// The same in two parts: a word, and the numbers.
+const RUN_WORD: [u8; 5] = *b"(run ";
+
+const MOVE_WORD: [u8; 6] = *b"(move ";
+
+const CLAIM_WORD: [u8; 7] = *b"(claim ";
+
+const THREE_NUMBERS: [u8; 6] = *b"# # #)";
+
+// The forms' numbers.
+const RUN: u64 = 1;
+
+const MOVE: u64 = 2;
+
+const CLAIM: u64 = 3;
 
 pub enum Line {
     Run { i: u64, processor: u64, start: u64 },
@@ -96,34 +111,35 @@ fn claim_of(span: u64, blue_peak: u64, red_peak: u64) -> Line
     Line::OutOfRange
 }
 
-// A line, without its LF: the first form that it has.
-pub fn parse(shape: Shape, line: &[u8]) -> Line
-    requires { ⌜ Processors shape ⌝ }
-    ensures { λ r. ⌜ ((J : Job) → asReading r ≡ scheduleLine (instanceFrom shape J) (ended (now (line .entry)))) ⌝ }
+// The next line of a text, without its LF, by the form that it has; no bytes where it has none, lacks its LF or is
+// absent. `found` then holds the form's number and the line's numbers.
+pub fn next_line<'a>(paper: &'a [u8], found: &mut [u64; 5]) -> &'a [u8]
+    ensures { λ r. ⌜ NextLine (now (paper .entry)) (now r) (now (found .exit)) ⌝ }
 {
-    if let Numbers::Are {
-        first,
-        second,
-        third,
-        fourth: _,
-    } = text::scan(&RUN_FORM, line) {
-        return run_of(shape, first, second, third);
+    let moved = text::line_by(&MOVE_WORD, &THREE_NUMBERS, paper, MOVE, found);
+    if 0 < moved.len() {
+        return moved;
     }
-    if let Numbers::Are {
-        first,
-        second,
-        third,
-        fourth: _,
-    } = text::scan(&MOVE_FORM, line) {
-        return move_of(first, second, third);
+    let run = text::line_by(&RUN_WORD, &THREE_NUMBERS, paper, RUN, found);
+    if 0 < run.len() {
+        return run;
     }
-    if let Numbers::Are {
-        first,
-        second,
-        third,
-        fourth: _,
-    } = text::scan(&CLAIM_FORM, line) {
-        return claim_of(first, second, third);
+    text::line_by(&CLAIM_WORD, &THREE_NUMBERS, paper, CLAIM, found)
+}
+
+// What the numbers found say.
+pub fn line_of(shape: Shape, found: &[u64; 5]) -> Line
+    requires { ⌜ Processors shape ⌝ }
+    ensures { λ r. ⌜ ((J : Job) → asReading r ≡ saidBy (instanceFrom shape J) (now (found .entry))) ⌝ }
+{
+    if found[0] == RUN {
+        return run_of(shape, found[1], found[2], found[3]);
+    }
+    if found[0] == MOVE {
+        return move_of(found[1], found[2], found[3]);
+    }
+    if found[0] == CLAIM {
+        return claim_of(found[1], found[2], found[3]);
     }
     Line::Malformed
 }

@@ -11,7 +11,8 @@ ghost use Rattle.schedule.specs.Lines.{asReading};
 ghost use Rattle.schedule.specs.Reading.{LineAt, Taken, asRead, goesOn, InText, nothing, runsOf};
 use crate::lines::Line;
 use crate::lines::fault_of;
-use crate::lines::parse;
+use crate::lines::line_of;
+use crate::lines::next_line;
 use model::claim::Claim;
 use model::crossing;
 use model::layout;
@@ -43,23 +44,23 @@ struct Cut {
     next: usize,
 }
 
-// The line that starts at `at`; malformed if it is absent or lacks its LF.
+// The line that starts at `at`; malformed if it is absent, lacks its LF or has no form.
 fn line_at(shape: Shape, paper: &[u8], at: usize) -> Cut
     requires { ⌜ Processors shape ⌝ }
     requires { ⌜ at ≤ length (now paper) ⌝ }
     ensures { λ r. ⌜ ((J : Job) → LineAt (instanceFrom shape J) (now (paper .entry)) at (asReading (r .said)) (r .next)) ⌝ }
     ensures { λ r. ⌜ r .next ≤ length (now (paper .entry)) ⌝ }
 {
-    let rest = &paper[at..];
-    let line = text::first_line(rest);
-    if rest.len() <= line.len() {
+    let mut found = [0u64; 5];
+    let line = next_line(&paper[at..], &mut found);
+    if line.len() == 0 {
         return Cut {
             said: Line::Malformed,
             next: paper.len(),
         };
     }
     Cut {
-        said: parse(shape, line),
+        said: line_of(shape, &found),
         next: at + line.len() + 1,
     }
 }

@@ -15,12 +15,16 @@ use Rattle.text.specs.FirstLine.{firstLine}
 use Rattle.text.proofs.PartLaws.{tail-part}
 use Rattle.text.proofs.FrontLaws.{Front, front-within}
 
+pub no-first : firstLine [] ≡ []
+unfolding firstLine
+no-first = refl
+
 module _ (b : ℕ) (bs : List ℕ) where
-  first-more : eqb b 10 ≡ false → firstLine (b ∷ bs) ≡ b ∷ firstLine bs
+  pub first-more : eqb b 10 ≡ false → firstLine (b ∷ bs) ≡ b ∷ firstLine bs
   unfolding firstLine
   first-more e = rw (e, firstLine)
 
-  first-stop : eqb b 10 ≡ true → firstLine (b ∷ bs) ≡ []
+  pub first-stop : eqb b 10 ≡ true → firstLine (b ∷ bs) ≡ []
   unfolding firstLine
   first-stop e = rw (e, firstLine)
 

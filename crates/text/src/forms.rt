@@ -2,84 +2,110 @@
 ghost use mathlib.Core.Path.{_≡_};
 ghost use Prim.Native.Nat.{_^_, _≤_, _<_};
 ghost use mathlib.Core.List.{_++_};
-ghost use lib.ListN.{length, getD, set};
-ghost use Rattle.rules.specs.Text.{lf, scan as scanned, startsWith, fill};
-ghost use Rattle.text.specs.ReadNumbers.{numbersOf};
+ghost use mathlib.Core.Bool.{true, cond};
+ghost use lib.Dec.{ltb};
+ghost use lib.ListN.{length, drop, getD, set};
+ghost use Rattle.rules.specs.Text.{lf, startsWith, fill};
+ghost use Rattle.text.specs.Cut.{begins, lineless, Parted, scanEnded, Cut};
+ghost use Rattle.text.specs.FirstLine.{firstLine, Passed};
 ghost use Rattle.text.specs.Wrote.{Wrote};
-use crate::numerals::digits;
-use crate::numerals::is_numeral;
+use crate::numerals::number;
 use crate::numerals::number_size;
-use crate::numerals::value;
 use crate::numerals::write_number;
 
-// What reading a line by a form finds: the line's first four numbers in the form's order, 0 for each that the form
-// does not have, or that the line does not have the form.
-pub enum Numbers {
-    Are {
-        first: u64,
-        second: u64,
-        third: u64,
-        fourth: u64,
-    },
-    Not,
-}
-
-// The numbers with one more at a place, unchanged where there is no such place.
-fn with_number(found: [u64; 4], place: usize, number: u64) -> [u64; 4]
-    ensures { λ r. ⌜ r ≡ set found place number ⌝ }
+// Stores a number at a place, nothing where there is no such place.
+fn put(found: &mut [u64; 5], place: usize, number: u64)
+    ensures { λ _. ⌜ now (found .exit) ≡ cond (ltb place 5) (set (now (found .entry)) place number) (now (found .entry)) ⌝ }
 {
-    let mut all = found;
-    if place < 4 {
-        all[place] = number;
+    if place < 5 {
+        found[place] = number;
     }
-    all
 }
 
-// Whether `text` starts with the byte `b`.
-fn starts_with(b: u8, text: &[u8]) -> bool
-    ensures { λ r. ⌜ r ≡ startsWith b (now (text .entry)) ⌝ }
+// Whether the byte `b` stands at a place of `text`.
+fn stands(b: u8, text: &[u8], at: usize) -> bool
+    ensures { λ r. ⌜ r ≡ startsWith b (drop at (now (text .entry))) ⌝ }
 {
-    if text.len() == 0 {
+    if text.len() <= at {
         return false;
     }
-    b == text[0]
+    b == text[at]
 }
 
-// Reads a line by a form.
-pub fn scan<'a>(form: &'a [u8], line: &'a [u8]) -> Numbers
-    ensures { λ r. ⌜ r ≡ numbersOf (scanned (now (form .entry)) (now (line .entry))) ⌝ }
+// Whether `text` starts with `word`.
+fn starts_by<'a, 'b>(word: &'b [u8], text: &'a [u8]) -> bool
+    ensures { λ r. ⌜ r ≡ begins (now (word .entry)) (now (text .entry)) ⌝ }
 {
-    let mut found = [0u64; 4];
-    let mut count = 0;
+    if text.len() < word.len() {
+        return false;
+    }
     let mut i = 0;
-    let mut rest = line;
+    while i < word.len() {
+        if word[i] != text[i] {
+            return false;
+        }
+        i += 1;
+    }
+    true
+}
+
+// The first line of `text`, without its LF, if it has the form from `start` on; else no bytes.
+fn line_behind<'a, 'b>(
+    start: usize,
+    form: &'b [u8],
+    text: &'a [u8],
+    kind: u64,
+    found: &mut [u64; 5],
+) -> &'a [u8]
+    requires { ⌜ (0 < start) × Passed firstLine (now text) start ⌝ }
+    requires { ⌜ lineless (now form) ≡ true ⌝ }
+    ensures { λ r. ⌜ Cut kind (scanEnded (now (form .entry)) (drop start (now (text .entry)))) (now (text .entry)) (now r) (now (found .exit)) ⌝ }
+{
+    *found = [kind, 0, 0, 0, 0];
+    let mut at = start;
+    let mut count = 1;
+    let mut i = 0;
     while i < form.len() {
         if form[i] == b'#' {
-            let ds = digits(rest);
-            if !is_numeral(ds) {
-                return Numbers::Not;
+            let read = number(&text[at..]);
+            if read.size == 0 {
+                return &text[..0];
             }
-            found = with_number(found, count, value(ds));
+            put(found, count, read.value);
+            at += read.size;
             count += 1;
-            rest = &rest[ds.len()..];
             i += 1;
         } else {
-            if !starts_with(form[i], rest) {
-                return Numbers::Not;
+            if !stands(form[i], text, at) {
+                return &text[..0];
             }
-            rest = &rest[1..];
+            at += 1;
             i += 1;
         }
     }
-    if 0 < rest.len() {
-        return Numbers::Not;
+    if !stands(b'\n', text, at) {
+        return &text[..0];
     }
-    Numbers::Are {
-        first: found[0],
-        second: found[1],
-        third: found[2],
-        fourth: found[3],
+    &text[..at]
+}
+
+// The first line of `text`, without its LF, if LF ends it and it has the form `word` with `form` behind it; else no bytes.
+// `found` then holds `kind` and the line's first four numbers, 0 for each that the form does not have.
+pub fn line_by<'a, 'b>(
+    word: &'b [u8],
+    form: &'b [u8],
+    text: &'a [u8],
+    kind: u64,
+    found: &mut [u64; 5],
+) -> &'a [u8]
+    requires { ⌜ Parted (now word) (now form) ⌝ }
+    ensures { λ r. ⌜ Cut kind (scanEnded (now (word .entry) ++ now (form .entry)) (now (text .entry))) (now (text .entry)) (now r)
+        (now (found .exit)) ⌝ }
+{
+    if !starts_by(word, text) {
+        return &text[..0];
     }
+    line_behind(word.len(), form, text, kind, found)
 }
 
 // The value at a place, 0 past the last.

@@ -4,7 +4,7 @@ ghost use Rattle.rules.specs.Calls.{lineAt};
 ghost use Rattle.text.specs.FirstLine.{firstLine, lineFrom};
 
 // The part of `text` before its first LF, all of it where there is none.
-pub fn first_line(text: &[u8]) -> &[u8]
+fn first_line(text: &[u8]) -> &[u8]
     ensures { λ r. ⌜ now r ≡ firstLine (now (text .entry)) ⌝ }
 {
     let mut n = 0;

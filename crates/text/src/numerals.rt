@@ -3,8 +3,8 @@
 ghost use mathlib.Core.Path.{_≡_};
 ghost use Prim.Native.Nat.{_-_, _≤_};
 ghost use lib.ListN.{length};
-ghost use Rattle.rules.specs.Limits.{maxDigits};
-ghost use Rattle.rules.specs.Text.{digit, digitsOf, numeral, valueFrom, decimal};
+ghost use Rattle.rules.specs.Text.{digit, decimal};
+ghost use Rattle.text.specs.Numerals.{Summed, Spelled};
 ghost use Rattle.text.specs.Wrote.{Wrote};
 use rules::Board;
 
@@ -17,36 +17,6 @@ fn is_digit(b: u8) -> bool
     b <= b'9'
 }
 
-// The digits at the front of `text`.
-pub fn digits(text: &[u8]) -> &[u8]
-    ensures { λ r. ⌜ now r ≡ digitsOf (now (text .entry)) ⌝ }
-{
-    let mut n = 0;
-    while n < text.len() {
-        if !is_digit(text[n]) {
-            return &text[..n];
-        }
-        n += 1;
-    }
-    &text[..n]
-}
-
-// Whether digits spell a number.
-pub fn is_numeral(ds: &[u8]) -> bool
-    ensures { λ r. ⌜ r ≡ numeral (now (ds .entry)) ⌝ }
-{
-    if ds.len() == 0 {
-        return false;
-    }
-    if ds.len() == 1 {
-        return true;
-    }
-    if ds[0] == b'0' {
-        return false;
-    }
-    ds.len() <= Board::MAX_DIGITS
-}
-
 // What a digit adds to a number.
 fn units(d: u8) -> u64
     ensures { λ r. ⌜ r ≡ d - 48 ⌝ }
@@ -54,18 +24,42 @@ fn units(d: u8) -> u64
     if d < b'0' { 0 } else { (d - b'0') as u64 }
 }
 
-// The number that digits spell.
-pub fn value(ds: &[u8]) -> u64
-    requires { ⌜ length (now ds) ≤ maxDigits ⌝ }
-    ensures { λ r. ⌜ r ≡ valueFrom 0 (now (ds .entry)) ⌝ }
+// A number at the front of a text, and how many digits spell it; 0 digits where none is there.
+pub struct Numeral {
+    pub value: u64,
+    pub size: usize,
+}
+
+// What a text's first digits spell: nothing where a zero leads others.
+fn spelled(text: &[u8], value: u64, size: usize) -> Numeral
+    requires { ⌜ Summed (now text) value size ⌝ }
+    ensures { λ r. ⌜ Spelled (now (text .entry)) (r .value) (r .size) ⌝ }
+{
+    if 1 < size {
+        if text[0] == b'0' {
+            return Numeral { value: 0, size: 0 };
+        }
+    }
+    Numeral { value, size }
+}
+
+// The number at the front of `text`.
+pub fn number(text: &[u8]) -> Numeral
+    ensures { λ r. ⌜ Spelled (now (text .entry)) (r .value) (r .size) ⌝ }
 {
     let mut v = 0;
-    let mut i = 0;
-    while i < ds.len() {
-        v = v * 10 + units(ds[i]);
-        i += 1;
+    let mut n = 0;
+    while n < text.len() {
+        if !is_digit(text[n]) {
+            return spelled(text, v, n);
+        }
+        if n == Board::MAX_DIGITS {
+            return Numeral { value: 0, size: 0 };
+        }
+        v = v * 10 + units(text[n]);
+        n += 1;
     }
-    v
+    spelled(text, v, n)
 }
 
 // How many digits a number has.

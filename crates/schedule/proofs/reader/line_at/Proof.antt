@@ -1,57 +1,56 @@
--- `schedule::reader::line_at` meets its contract: the first line of the text from `at` on.
+-- `schedule::reader::line_at` meets its contract: the next line of the text from `at` on.
 use native.Mathlib.Omega.{arith}
-use borrow.Author.Needs.{needs}
 use denote.Ref.{now}
 use Rattle.model.specs.Layout.{instanceFrom}
 use Rattle.schedule.proofs.LineAtLaws.{cut-line, cut-within, cut-no-line}
+use borrow.Author.Needs.{needs}
 use Rattle.schedule.proofs.reader.line_at.Statement.{statement}
 use Rattle.schedule.proofs.reader.line_at.Tie as tie
 
-sub-rest : tie.Need-sub-rest
-sub-rest c = search needs
+sub-next-line : tie.Need-sub-next-line
+sub-next-line c = search needs
 
-part-rest-start : tie.Need-part-rest-start
-part-rest-start c = search needs
+part-next-line-start : tie.Need-part-next-line-start
+part-next-line-start c = search needs
 
-part-rest-end : tie.Need-part-rest-end
-part-rest-end c = search needs
+part-next-line-end : tie.Need-part-next-line-end
+part-next-line-end c = search needs
 
-first-line-requires : tie.Need-first-line-requires
-first-line-requires c κs = search needs
+next-line-requires : tie.Need-next-line-requires
+next-line-requires c κs = search needs
 
 returns : tie.Need-returns
 returns c =
-    let s = c .before .before .before .before in
-    (λ J. cut-no-line _ _ _ (c .before .first-line .ensures) (instanceFrom (s .args .shape) J) (c .if1 .taken), omega arith)
+    let s = c .before .before .before .before .before in
+    (λ J. cut-no-line _ _ _ _ (c .before .next-line .ensures) (c .if1 .taken) (instanceFrom (s .args .shape) J) _, omega arith)
 
-parse-requires : tie.Need-parse-requires
-parse-requires c κs = search needs
+line-of-requires : tie.Need-line-of-requires
+line-of-requires c κs = search needs
 
-add-t9 : tie.Need-add-t9
-add-t9 c = search needs
+add-t16 : tie.Need-add-t16
+add-t16 c = search needs
 
-add-t14 : tie.Need-add-t14
-add-t14 c = search needs
+add-t17 : tie.Need-add-t17
+add-t17 c = search needs
 
 returns-2 : tie.Need-returns-2
 returns-2 c =
-    let s = c .before .before .before .before .before in
-    let f = c .before .before in (
-      λ J. cut-line _ _ _ (f .first-line .ensures) (instanceFrom (s .args .shape) J) (c .before .if1 .left) _ (c .parse .ensures J),
-      cut-within
-          (now (s .args .paper)) _ _ (f .first-line .ensures) (c .before .if1 .left),
+    let n = c .before .before .before in
+    let s = n .before .before .before .before in (
+      λ J. cut-line _ _ _ _ (n .next-line .ensures) (omega arith) (instanceFrom (s .args .shape) J) _ (c .line-of .ensures J),
+      cut-within (now (s .args .paper)) _ _ _ (n .next-line .ensures) (omega arith),
     )
 
 pub line-at-spec : {M : Type 1} → statement M
 line-at-spec =
     tie.close
     (tie.spec
-    sub-rest
-    part-rest-start
-    part-rest-end
-    first-line-requires
+    sub-next-line
+    part-next-line-start
+    part-next-line-end
+    next-line-requires
     returns
-    parse-requires
-    add-t9
-    add-t14
+    line-of-requires
+    add-t16
+    add-t17
     returns-2)

@@ -7,8 +7,8 @@ use mathlib.Core.Bool.{not}
 use native.Mathlib.Omega.{arith}
 use lib.ListN.{length}
 use lib.Seq.{length-take-le}
-use Rattle.text.specs.FirstLine.{firstLine}
-use Rattle.text.proofs.FrontLaws.{Passed, passed-none, passed-more, passed-stop, passed-end}
+use Rattle.text.specs.FirstLine.{firstLine, Passed}
+use Rattle.text.proofs.FrontLaws.{passed-none, passed-more, passed-stop, passed-end}
 use Rattle.text.proofs.FirstLineLaws.{line-front}
 use Rattle.text.proofs.lines.first_line.Statement.{statement}
 use Rattle.text.proofs.lines.first_line.Tie as tie
