@@ -6,7 +6,7 @@ use mathlib.Core.Path.{_≡_, sym, ap, _∙_}
 use native.Mathlib.Omega.{arith}
 use borrow.Author.Tests.{lt-ltb}
 use Rattle.rules.specs.Count.{maxBelow}
-use Rattle.rules.specs.Model.{Colour, blue, red, Instance, Schedule, fileCount, finishAt, isPlaced, runAt, makerRun, readerRun}
+use Rattle.rules.specs.Model.{Colour, blue, red, Instance, Schedule, fileCount, isPlaced, runAt, makerRun, readerRun}
 use Rattle.rules.specs.Residency.{holdOf, workOf, held}
 use Rattle.rules.specs.Validity.{Claim, makespan, peak, trueClaim}
 use Rattle.rules.proofs.CompleteLaws.{none-held}

@@ -1,5 +1,5 @@
 -- Peaks and the first instant over a limit, from a memory's changes: changesLaw, judgeByChangesLaw.
-use Prim.Native.Nat.{ℕ, zero, suc, _+_, _*_, _-_, _≤_, _<_, min}
+use Prim.Native.Nat.{ℕ, zero, suc, _+_, _-_, _≤_, _<_, min}
 use mathlib.Core.Bool.{Bool, true, false, cond, _&&_}
 use mathlib.Core.List.{List, [], _∷_, _++_}
 use mathlib.Core.Option.{Option, none, some}
@@ -17,7 +17,7 @@ use Rattle.rules.specs.Validity.{Complete, Claim, OnTime, AllOnTime, ove
 use Rattle.rules.specs.Promises.{WellFormed, First}
 use Rattle.rules.specs.Changes.{Residency, residencies, Change, changesBy, changesIn, changeAt, timeKey, InOrder, InTime, runningTotal, greatestTotal, overAfter, firstOver, sooner, claimByChanges, memoryByFirst, memoryByChanges, judgeByChanges}
 use Rattle.rules.specs.ChangesPromises.{SameTotals, ChangesLaw, JudgeByChangesLaw}
-use Rattle.rules.proofs.Tests.{split, by-order, clash, or-yes}
+use Rattle.rules.proofs.Tests.{split, by-order, clash}
 use Rattle.rules.proofs.CountLaws.{sum-count, max-bound, max-under, first-before, first-holds, first-bound, first-none, first-is, none-first as none-found}
 use Rattle.rules.proofs.HoldLaws.{hold-closed}
 use Rattle.rules.proofs.CompleteLaws.{maker-placed, reader-placed, peak-greatest}

@@ -2,13 +2,12 @@
 use Prim.Native.Nat.{ℕ, zero, suc, _+_, _≤_, _<_}
 use mathlib.Core.Bool.{Bool, true, false, not, cond, _&&_}
 use mathlib.Core.List.{List, [], _∷_}
-use mathlib.Core.Path.{_≡_, refl, sym, ap}
+use mathlib.Core.Path.{_≡_, refl, ap}
 use native.Mathlib.Omega.{arith}
 use lib.Dec.{leb, eqb}
-use lib.ListN.{length}
 use borrow.Author.Tests.{leb-true, leb-false, eqb-true, eq-eqb}
 use Rattle.rules.specs.Count.{sumOver}
-use Rattle.rules.specs.Changes.{Change, changes, changeAt, sameChange, occurrences, SameChanges, timeKey, InOrder, InTime}
+use Rattle.rules.specs.Changes.{Change, changes, sameChange, occurrences, SameChanges, timeKey, InOrder}
 use Rattle.rules.specs.ChangesPromises.{OrderLaw}
 use Rattle.rules.proofs.Tests.{split, clash, and-true}
 

@@ -1,5 +1,5 @@
 -- One turn of each loop over the files or the tasks, and what it comes to after all of them; and what the accessors read.
-use Prim.Native.Nat.{ℕ, _+_, _≤_, _<_, min}
+use Prim.Native.Nat.{ℕ, _+_, _<_, min}
 use mathlib.Core.Bool.{Bool, cond}
 use mathlib.Core.Path.{_≡_, sym, ap, _∙_}
 use native.Mathlib.Omega.{arith}
