@@ -23,7 +23,7 @@ extern "C" {
  * (`ConvertedShort`, `StrippedShort`). */
 #define FRAMES_MAX_TEXT 32768
 
-/* Stack that is enough for any call but frames_strip, and for that one, in bytes. On the largest sheet (64 tasks, 256 files) a planner used 15 KB,
+/* Stack that is enough for any call but frames_strip, and for that one, in bytes. On the largest sheet (64 tasks, 256 files) a planner used 16 KB,
  * the marker, with every file moved, 30 KB, the simulator 19 KB, frames_convert 20 KB and frames_strip 43 KB: tests/calls.c runs each call on a
  * painted stack, and fails if one uses more than this. */
 #define FRAMES_STACK 32768
