@@ -5,7 +5,7 @@
  *   - Each pointer has as many bytes behind it as its length says, readable, and writable for `line` and `out`. With length 0 it may be NULL.
  *   - `result`, `running` and `contents` are arrays of the lengths shown, and never NULL. What they held before plays no part.
  *   - `line`, `out` and these arrays overlap neither a text nor each other. The two texts may overlap, or be one.
- *   - FRAMES_STACK bytes of stack are left, for frames_strip FRAMES_STRIP_STACK.
+ *   - FRAMES_STACK bytes of stack are left, for a planner FRAMES_PLAN_STACK, for frames_strip FRAMES_STRIP_STACK.
  * A tick or a span of a result may take more than 32 bits: keep it in 64.
  * A call uses no heap, no global data and no file, keeps nothing, and always returns; so calls may run at the same time on several threads. */
 #ifndef FRAMES_H
@@ -23,10 +23,11 @@ extern "C" {
  * (`ConvertedShort`, `StrippedShort`). */
 #define FRAMES_MAX_TEXT 32768
 
-/* Stack that is enough for any call but frames_strip, and for that one, in bytes. On the largest sheet (64 tasks, 256 files) a planner used 16 KB,
- * the marker, with every file moved, 30 KB, the simulator 19 KB, frames_convert 20 KB and frames_strip 43 KB: tests/calls.c runs each call on a
- * painted stack, and fails if one uses more than this. */
+/* Stack that is enough, in bytes: for a planner, for frames_strip, and for any other call. On the largest sheet (64 tasks, 256 files) a planner used
+ * PLAN KB, the marker, with every file moved, 30 KB, the simulator 19 KB, frames_convert 20 KB and frames_strip STRIP KB: tests/calls.c runs each call on
+ * a painted stack, and fails if one uses more than this. */
 #define FRAMES_STACK 32768
+#define FRAMES_PLAN_STACK 65536
 #define FRAMES_STRIP_STACK 49152
 
 /* The numbers that a call answers. The place is what stands in brackets; lines and tasks are counted from 1. The marker answers 0, 1 to 4 and 11

@@ -466,7 +466,7 @@ static void stacks(void) {
     printf("stack on the largest sheet, in bytes: marker %zu, line at fault %zu", mark, line);
     for (size_t i = 0; i < PLANNERS; i++) {
         measured_planner = planners[i].call;
-        printf(", %s %zu", planners[i].name, measured(planners[i].name, call_planner));
+        printf(", %s %zu", planners[i].name, measured_within(FRAMES_PLAN_STACK, planners[i].name, call_planner));
     }
     printf(", simulator %zu", measured("frames_simulate", call_simulate));
     printf(", converter %zu", measured("frames_convert", call_convert));

@@ -19,7 +19,7 @@ function follow(crate, way,    i, n, deps, at) {
     }
 }
 BEGIN {
-    planners = split("starts selection ranking placement claims planner plan_text", names, " ")
+    planners = split("links staircase needs starts selection ranking placement planner plan_text", names, " ")
     for (i = 1; i <= planners; i++) part[names[i]] = "planners"
     markers = split("runs sorting changes validator mark_text", names, " ")
     for (i = 1; i <= markers; i++) part[names[i]] = "marker"

@@ -1,10 +1,10 @@
 -- The cases of the small functions on holds.
-use Prim.Native.Nat.{ℕ, _≤_, _<_, max}
+use Prim.Native.Nat.{ℕ, _≤_, _<_}
 use mathlib.Core.Bool.{false}
 use mathlib.Core.Path.{_≡_}
 use lib.Dec.{ltb, leb}
 use borrow.Author.Tests.{le-leb, lt-leb}
-use Rattle.rules.specs.Residency.{covers, settles}
+use Rattle.rules.specs.Residency.{covers}
 use Rattle.model.specs.declared.residency.Hold.{Hold}
 use Rattle.model.specs.declared.residency.Hold.the-variants.{During, Since}
 use Rattle.model.specs.Holds.{asHold}
@@ -18,6 +18,3 @@ module _ (h : Hold) (t : ℕ) where
 
   pub covers-since : (a : ℕ) → h ≡ Since a → leb a t ≡ covers (asHold h) t
   covers-since a e = rw e
-
-pub settles-during : (h : Hold) (a b r : ℕ) → h ≡ During a b → r ≡ max a b → r ≡ settles (asHold h)
-settles-during h a b r e q = rw e q

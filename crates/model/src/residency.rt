@@ -2,7 +2,7 @@
 ghost use mathlib.Core.Path.{_≡_};
 ghost use Prim.Native.Nat.{_<_, _≤_, max};
 ghost use Rattle.rules.specs.Model.{finishAt, releaseAt};
-ghost use Rattle.rules.specs.Residency.{covers as rules-covers, settles as rules-settles, openHold, closedHold, holdOf, workOf};
+ghost use Rattle.rules.specs.Residency.{covers as rules-covers, openHold, closedHold, holdOf, workOf};
 ghost use Rattle.model.specs.Colours.{asColour};
 ghost use Rattle.model.specs.Layout.{instanceOf, scheduleOf, InBounds, lastTick};
 ghost use Rattle.model.specs.Holds.{TimesOf, TimesWithin, asHold, Within};
@@ -41,17 +41,6 @@ pub fn covers(h: Hold, t: u64) -> bool
         Hold::Never => false,
         Hold::During(from, end) => { if from <= t { t < end } else { false } }
         Hold::Since(from) => from <= t,
-    }
-}
-
-// The tick from which on the hold changes no more.
-pub fn settles(h: Hold) -> u64
-    ensures { λ r. ⌜ r ≡ rules-settles (asHold h) ⌝ }
-{
-    match h {
-        Hold::Never => 0,
-        Hold::During(from, end) => greater(from, end),
-        Hold::Since(from) => from,
     }
 }
 

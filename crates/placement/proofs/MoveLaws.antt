@@ -1,5 +1,5 @@
 -- The moves of the files that a task reads, as it is placed.
-use Prim.Native.Nat.{ℕ, _+_, _-_, _≤_, _<_}
+use Prim.Native.Nat.{ℕ, suc, _-_, _≤_, _<_}
 use mathlib.Core.Bool.{Bool, true, false, cond}
 use mathlib.Core.List.{List}
 use mathlib.Core.Path.{_≡_, refl, sym, ap, _∙_}
@@ -11,12 +11,18 @@ use borrow.Author.Tests.{lt-ltb}
 use Rattle.rules.specs.Count.{listBelow}
 use Rattle.rules.specs.Limits.{maxTasks, maxFiles}
 use Rattle.rules.specs.Model.{Instance, Schedule, Colour, runAt, moveAt, fileAt, fileCount, moveTimeAt}
-use Rattle.rules.specs.Scheduling.{crossing, moveWith}
+use Rattle.rules.specs.Scheduling.{reads, crossing, moveWith}
+use Rattle.rules.proofs.Tests.{by-order}
 use Rattle.rules.proofs.CountLaws.{list-cong}
 use Rattle.model.specs.declared.layout.Shape.{Shape}
 use Rattle.model.specs.Layout.{Job, Entries, entriesOf, runFrom, instanceFrom, scheduleFrom, scheduleOf, JobBounds, scheduleLength, withMoveAt}
 use Rattle.model.proofs.LayoutLaws.{file-count, maker-at, move-time-at, run-at, move-at}
+use Rattle.links.specs.Chains.{NextOf}
 use Rattle.model.proofs.WriteLaws.{move-here, move-other, move-runs}
+
+-- a file that the task does not read does not cross
+pub not-read : (I : Instance) (P : Schedule) (i : ℕ) (c : Colour) (k : ℕ) → reads I i k ≡ false → crossing I P i c k ≡ false
+not-read I P i c k e = rw e
 
 module _ {b : Shape} {J : Job} (f : JobBounds b J) (L : Entries) {k : ℕ} (h : k < b .files) where
   abbrev I : Instance
@@ -75,7 +81,7 @@ module _ {b : Shape} {J : Job} (f : JobBounds b J) (xs : List ℕ) (i : ℕ) (c 
         rw (r, u)
 
     pub moves-turn : {t : ℕ} {zs : List ℕ} → t ≡ moveWith inst (scheduleOf b ys) i c start k → zs ≡ withMoveAt ys k t → length zs ≡ scheduleLength
-        → MovesTo zs (k + 1)
+        → MovesTo zs (suc k)
     moves-turn {t} e w long =
         let l : k < maxFiles = omega (arith, f .files) in
         rw w
@@ -88,6 +94,18 @@ module _ {b : Shape} {J : Job} (f : JobBounds b J) (xs : List ℕ) (i : ℕ) (c 
           ];
           rest = λ j n. move-other ys l t j (omega arith) ∙ m .rest j (omega arith);
         })
+
+  -- past files that the task does not read
+  pub moves-skip : {ys : List ℕ} {k r : ℕ} → NextOf (fileCount inst) (reads inst i) k r → MovesTo ys k → MovesTo ys r
+  moves-skip {k = k} next m = record {
+    size = m .size;
+    runs = m .runs;
+    done = λ j n. by-order j k
+        (λ l. m .done j l)
+        (λ l. m .rest j l ∙ sym (move-at b (entriesOf xs) j (omega (arith, next .within, file-count b J)))
+        ∙ rw (not-read inst (scheduleOf b xs) i c j (next .passed j l n)));
+    rest = λ j n. m .rest j (omega (arith, next .from));
+  }
 
   pub moves-total : {ys : List ℕ} {n : ℕ} → n ≡ b .files → MovesTo ys n → listBelow (b .files) (entriesOf ys .moveStart) ≡ listBelow (fileCount inst) moveBy
   moves-total e m = list-cong (b .files) _ _ (λ k l. m .done k (omega arith)) ∙ ap (λ n. listBelow n moveBy) (sym (file-count b J))

@@ -1,2 +1,3 @@
--- The processors of a colour among the last finishes.
+-- The processors of a colour among the last finishes; what a placing changes in the two memories.
 pub mod Slots
+pub mod Memory

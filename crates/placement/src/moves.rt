@@ -5,17 +5,19 @@ ghost use lib.ListN.{length};
 ghost use Rattle.rules.specs.Count.{listBelow};
 ghost use Rattle.rules.specs.Limits.{maxTasks};
 ghost use Rattle.rules.specs.Model.{fileCount};
-ghost use Rattle.rules.specs.Scheduling.{moveWith};
+ghost use Rattle.rules.specs.Scheduling.{reads, moveWith};
 ghost use Rattle.model.specs.Colours.{asColour};
 ghost use Rattle.model.specs.Layout.{entriesOf, runFrom, scheduleLength, instanceOf, scheduleOf, JobInBounds};
+ghost use Rattle.links.specs.Chains.{Chained};
 use model::choice::select;
 use model::colour::Colour;
 use model::crossing::cost_for;
 use model::layout;
 use model::layout::Shape;
+use rules::Board;
 
 // m less n, and not below 0.
-fn saturating_sub(m: u64, n: u64) -> u64
+pub fn saturating_sub(m: u64, n: u64) -> u64
     ensures { λ r. ⌜ r ≡ m - n ⌝ }
 {
     if m < n { 0 } else { m - n }
@@ -43,16 +45,20 @@ fn move_with<'a>(
     select(0 < takes, departs, before)
 }
 
-// The move starts of all files, with task i placed on the colour at the start. The runs stay.
-pub fn set_moves(
+// The move starts of all files, with task i placed on the colour at the start. The runs stay. Only files that the task reads move.
+pub fn set_moves<'a>(
     shape: Shape,
-    job: &[u64; layout::JOB],
+    job: &'a [u64; layout::JOB],
+    first: &'a [u64; Board::MAX_TASKS],
+    next: &'a [u64; Board::MAX_FILES],
     schedule: &mut [u64; layout::SCHEDULE],
     i: usize,
     colour: Colour,
     start: u64,
 )
     requires { ⌜ JobInBounds shape (now job) ⌝ }
+    requires { ⌜ i < shape .tasks ⌝ }
+    requires { ⌜ Chained (instanceOf shape (now job)) (reads (instanceOf shape (now job))) (now first) (now next) ⌝ }
     requires { ⌜ length (now schedule) ≡ scheduleLength ⌝ }
     ensures { λ r. ⌜ length (now (schedule .exit)) ≡ scheduleLength ⌝ }
     ensures { λ r. ⌜ ((j : ℕ) → j < maxTasks → runFrom (entriesOf (now (schedule .exit))) j ≡ runFrom (entriesOf (now (schedule .entry))) j) ⌝ }
@@ -60,10 +66,10 @@ pub fn set_moves(
         listBelow (fileCount (instanceOf shape (now (job .entry))))
         (moveWith (instanceOf shape (now (job .entry))) (scheduleOf shape (now (schedule .entry))) i (asColour colour) start) ⌝ }
 {
-    let mut k: usize = 0;
+    let mut k = first[i] as usize;
     while k < shape.files {
         let t = move_with(shape, job, schedule, i, colour, start, k);
         layout::set_move_start(schedule, k, t);
-        k += 1;
+        k = next[k] as usize;
     }
 }

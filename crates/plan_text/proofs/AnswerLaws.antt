@@ -9,10 +9,13 @@ use Rattle.rules.specs.Scheduling as Rules
 use Rattle.rules.specs.Scheduling.{Planner, outcome}
 use Rattle.rules.specs.Calls.{planText, written, planMade, planOn}
 use Rattle.rules.specs.Calls as Calls
+use Rattle.rules.specs.Validity.{trueClaim}
+use Rattle.model.specs.declared.claim.Claim.{Claim}
+use Rattle.model.specs.Claims.{asClaim}
 use Rattle.text.specs.Wrote.{Wrote}
 use Rattle.planner.specs.declared.Outcome.{Outcome}
 use Rattle.planner.specs.declared.Outcome.the-variants as Made
-use Rattle.planner.specs.Outcomes.{asOutcome}
+use Rattle.planner.specs.Outcomes.{asOutcome, Claims}
 
 -- ---- the text fits, or not
 
@@ -32,8 +35,12 @@ module _ (R : Planner) (I : Instance) (buffer : List ℕ) (P : Schedule) (r : Ou
   pub made-stuck : {k trials : ℕ} → r ≡ Made.Stuck k trials → answer 21 k trials buffer ≡ planOn R I buffer
   made-stuck {k} {trials} e = let o : outcome R I ≡ Rules.stuck k trials = sym made ∙ rw e in sym (ap (planMade I buffer) o)
 
-  pub made-complete : {trials : ℕ} → r ≡ Made.Complete trials → outcome R I ≡ Rules.complete P trials
+  pub made-complete : {trials : ℕ} {claim : Claim} → r ≡ Made.Complete trials claim → outcome R I ≡ Rules.complete P trials
   made-complete e = sym made ∙ rw e
 
-  pub made-written : {trials : ℕ} {a : Calls.Answer} → r ≡ Made.Complete trials → a ≡ written (planText I P) buffer trials → a ≡ planOn R I buffer
+  pub made-written : {trials : ℕ} {claim : Claim} {a : Calls.Answer} → r ≡ Made.Complete trials claim → a ≡ written (planText I P) buffer trials → a ≡ planOn R I buffer
   made-written e w = w ∙ sym (ap (planMade I buffer) (made-complete e))
+
+  -- and what it claims is true
+  pub made-claim : {trials : ℕ} {claim : Claim} → r ≡ Made.Complete trials claim → Claims I P r → asClaim claim ≡ trueClaim I P
+  made-claim e c = rw e at c

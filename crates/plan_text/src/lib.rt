@@ -2,10 +2,12 @@
 ghost use mathlib.Core.Path.{_≡_};
 ghost use Rattle.rules.specs.Calls.{planText, written, planOn};
 ghost use Rattle.rules.specs.Promises.{WellFormed};
-ghost use Rattle.model.specs.Layout.{entriesOf, instanceOf, scheduleOf, InBounds, Placed};
+ghost use Rattle.rules.specs.Validity.{trueClaim};
+ghost use Rattle.model.specs.Claims.{asClaim};
+ghost use Rattle.model.specs.Layout.{instanceOf, scheduleOf, JobInBounds};
 ghost use Rattle.planner.specs.Outcomes.{asPlanner};
 ghost use Rattle.plan_text.specs.Answers.{asAnswer};
-use claims::true_claim;
+use model::claim::Claim;
 use model::layout;
 use model::layout::Shape;
 use planner::Outcome;
@@ -24,20 +26,20 @@ impl Answer {
     pub const SHORT: u64 = 31;
 }
 
-// Writes a complete schedule with its true claim, if the buffer is long enough.
+// Writes a schedule with its true claim, if the buffer is long enough.
 pub fn write_plan<'a>(
     shape: Shape,
     job: &'a [u64; layout::JOB],
     schedule: &'a [u64; layout::SCHEDULE],
+    claim: Claim,
     trials: u64,
     out: &mut [u8],
 ) -> Answer
-    requires { ⌜ InBounds shape (now job) (now schedule) ⌝ }
-    requires { ⌜ Placed shape (entriesOf (now schedule)) ⌝ }
+    requires { ⌜ JobInBounds shape (now job) ⌝ }
+    requires { ⌜ asClaim claim ≡ trueClaim (instanceOf shape (now job)) (scheduleOf shape (now schedule)) ⌝ }
     ensures { λ r. ⌜ asAnswer r (now (out .exit)) ≡
         written (planText (instanceOf shape (now (job .entry))) (scheduleOf shape (now (schedule .entry)))) (now (out .entry)) trials ⌝ }
 {
-    let claim = true_claim(shape, job, schedule);
     let size = schedule::schedule_size(shape, job, schedule, claim);
     if out.len() < size {
         return Answer {
@@ -66,6 +68,8 @@ pub fn plan_instance(rule: Rule, shape: Shape, job: &[u64; layout::JOB], out: &m
             place: placed,
             trials,
         },
-        Outcome::Complete { trials } => write_plan(shape, job, &schedule, trials, out),
+        Outcome::Complete { trials, claim } => {
+            write_plan(shape, job, &schedule, claim, trials, out)
+        }
     }
 }

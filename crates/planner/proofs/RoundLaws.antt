@@ -5,7 +5,7 @@ use Prim.Native.Nat.{ℕ}
 use Rattle.rules.specs.Model.{Instance, taskCount}
 use Rattle.rules.specs.Scheduling.{Partial, Round, byWeight, firstThatFits, earliestBelow, roundOf}
 use Rattle.starts.specs.declared.memory.Memory.{Memory}
-use Rattle.starts.specs.FreeMemory.{asMemory}
+use Rattle.starts.specs.Memories.{asMemory}
 use Rattle.planner.specs.declared.Rule.{Rule}
 use Rattle.planner.specs.declared.Rule.the-variants.{Heft, MinMin}
 use Rattle.planner.specs.Outcomes.{asPlanner}

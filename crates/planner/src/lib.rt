@@ -1,24 +1,23 @@
 // The planners: rounds, each of which places one task, until all are placed or none fits.
 ghost use mathlib.Core.Path.{_≡_};
-ghost use Prim.Native.Nat.{_*_, _≤_};
-ghost use lib.ListN.{getD, replicate};
-ghost use Rattle.rules.specs.Count.{listBelow};
-ghost use Rattle.rules.specs.Model.{taskCount};
+ghost use lib.ListN.{replicate};
+ghost use Rattle.rules.specs.Limits.{memoryLimits};
 ghost use Rattle.rules.specs.Promises.{WellFormed};
-ghost use Rattle.rules.specs.Scheduling.{byWeight, roundOf, outcome};
-ghost use Rattle.model.specs.Layout.{scheduleLength, instanceOf, scheduleOf, partialOf, InBounds, LastBounds};
-ghost use Rattle.selection.specs.Choices.{asRound, ChoiceBounds, OrderBounds};
-ghost use Rattle.planner.specs.Outcomes.{asPlanner, asOutcome};
+ghost use Rattle.rules.specs.Scheduling.{memoryOf, outcome};
+ghost use Rattle.model.specs.Layout.{scheduleLength, instanceOf, scheduleOf};
+ghost use Rattle.starts.specs.Memories.{asMemory};
+ghost use Rattle.planner.specs.Outcomes.{asPlanner, asOutcome, Claims};
+ghost use Rattle.planner.specs.Boards.{boardBy};
+use model::claim::Claim;
 use model::layout;
 use model::layout::Shape;
-use placement::task::place;
-use ranking::list::by_weight;
+use rounds::start;
 use rules::Board;
-use selection::round::Round;
-use selection::round::earliest_round;
-use selection::round::first_that_fits;
-use selection::trial::Choice;
+use rules::Side;
 use starts::memory::Memory;
+
+pub mod claim;
+pub mod rounds;
 
 // HEFT and MINMIN: memory aware, or plain.
 pub enum Rule {
@@ -26,32 +25,42 @@ pub enum Rule {
     MinMin(Memory),
 }
 
-// All tasks placed, or stuck after so many; and the trials made.
+// All tasks placed, with what the schedule has to claim, or stuck after so many; and the trials made.
 pub enum Outcome {
-    Complete { trials: u64 },
+    Complete { trials: u64, claim: Claim },
     Stuck { placed: u64, trials: u64 },
 }
 
-// One round of the planner; `order` is HEFT's list.
-fn round<'a>(
-    rule: Rule,
-    shape: Shape,
-    job: &'a [u64; layout::JOB],
-    schedule: &'a [u64; layout::SCHEDULE],
-    last: &'a [u64; layout::LAST],
-    order: &'a [u64; Board::MAX_TASKS],
-) -> Round
-    requires { ⌜ InBounds shape (now job) (now schedule) ⌝ }
-    requires { ⌜ LastBounds shape (now last) ⌝ }
-    requires { ⌜ OrderBounds shape (now order) ⌝ }
-    requires { ⌜ listBelow (shape .tasks) (λ p. getD (now order) p 0) ≡ byWeight (instanceOf shape (now job)) (taskCount (instanceOf shape (now job))) ⌝ }
-    ensures { λ r. ⌜ asRound r
-        ≡ roundOf (asPlanner rule) (instanceOf shape (now (job .entry))) (partialOf shape (now (schedule .entry)) (now (last .entry))) ⌝ }
-    ensures { λ r. ⌜ ChoiceBounds shape (r .choice) × (r .trials ≤ 2 * shape .tasks) ⌝ }
+// The side with the greatest limit, which holds all that any job has.
+fn loosened(side: Side) -> Side
+    ensures { λ r. ⌜ r ≡ record { processors = side .processors; limit = memoryLimits .most } ⌝ }
+{
+    Side {
+        processors: side.processors,
+        limit: Board::MAX_LIMIT,
+    }
+}
+
+// Whether the planner looks at memory.
+fn memory_of(rule: Rule) -> Memory
+    ensures { λ r. ⌜ asMemory r ≡ memoryOf (asPlanner rule) ⌝ }
 {
     match rule {
-        Rule::Heft(memory) => first_that_fits(memory, shape, job, schedule, last, order),
-        Rule::MinMin(memory) => earliest_round(memory, shape, job, schedule, last),
+        Rule::Heft(memory) => memory,
+        Rule::MinMin(memory) => memory,
+    }
+}
+
+// The board that a planner's staircases go by: a plain planner does not look at the limits.
+fn board_by(memory: Memory, board: Board) -> Board
+    ensures { λ r. ⌜ r ≡ boardBy (asMemory memory) board ⌝ }
+{
+    match memory {
+        Memory::Aware => board,
+        Memory::Plain => Board {
+            blue: loosened(board.blue),
+            red: loosened(board.red),
+        },
     }
 }
 
@@ -65,36 +74,13 @@ pub fn run(
     requires { ⌜ WellFormed (instanceOf shape (now job)) ⌝ }
     requires { ⌜ now schedule ≡ replicate scheduleLength 0 ⌝ }
     ensures { λ r. ⌜ asOutcome r (scheduleOf shape (now (schedule .exit))) ≡ outcome (asPlanner rule) (instanceOf shape (now (job .entry))) ⌝ }
+    ensures { λ r. ⌜ Claims (instanceOf shape (now (job .entry))) (scheduleOf shape (now (schedule .exit))) r ⌝ }
 {
-    let order = by_weight(shape, job);
-    let mut last = [0; layout::LAST];
-    let mut placed: usize = 0;
-    let mut trials: u64 = 0;
-    while placed < shape.tasks {
-        let found = round(rule, shape, job, schedule, &last, &order);
-        trials += found.trials;
-        let choice = found.choice;
-        let Choice::Choose {
-            task,
-            colour,
-            start,
-        } = choice
-        else {
-            return Outcome::Stuck {
-                placed: placed as u64,
-                trials,
-            };
-        };
-        place(
-            shape,
-            job,
-            schedule,
-            &mut last,
-            task as usize,
-            colour,
-            start,
-        );
-        placed += 1;
-    }
-    Outcome::Complete { trials }
+    let board = board_by(memory_of(rule), shape.board);
+    let own = Shape {
+        tasks: shape.tasks,
+        files: shape.files,
+        board,
+    };
+    start(rule, own, job, schedule)
 }

@@ -1,11 +1,10 @@
 -- The bound of a weight, and one turn of each loop that computes weights.
 use Prim.Native.Nat.{ℕ, zero, suc, _+_, _-_, _*_, _≤_, _<_, max}
-use mathlib.Core.Bool.{true, cond}
+use mathlib.Core.Bool.{true}
 use mathlib.Core.List.{List}
 use mathlib.Core.Path.{_≡_, sym, ap, _∙_}
 use native.Mathlib.Omega.{arith}
 use native.Mathlib.Decide.{ℕ-discrete}
-use lib.Dec.{eqb}
 use lib.ListN.{getD, set, length, replicate}
 use lib.Seq.{getD-set-same, getD-set-other}
 use borrow.Author.Tests.{eqb-true}
@@ -14,13 +13,13 @@ use Rattle.rules.specs.Limits.{maxTasks, moveTimes}
 use Rattle.rules.specs.Model.{blue, red, Instance, taskCount, fileAt, fileCount, moveTimeAt}
 use Rattle.rules.specs.Scheduling.{makes, weightWithin, weight}
 use Rattle.rules.specs.Promises.{WellFormed}
-use Rattle.rules.proofs.Tests.{cond-same}
 use Rattle.rules.proofs.CountLaws.{where-under, getD-same}
 use Rattle.rules.proofs.WeightLaws.{weightLaw}
 use Rattle.model.specs.declared.layout.Shape.{Shape}
 use Rattle.model.specs.Layout.{Job, instanceFrom}
-use Rattle.model.proofs.LayoutLaws.{file-count, task-count, task-at, reader-at, move-time-at, makes-at}
-use Rattle.model.proofs.StepLaws.{max-next}
+use Rattle.model.proofs.LayoutLaws.{file-count, task-count, task-at, reader-at, move-time-at}
+use Rattle.links.specs.Chains.{NextOf, Chained}
+use Rattle.links.proofs.ChainLaws.{max-first, max-behind}
 use Rattle.ranking.specs.Weights.{mostStep, mostWeight, WeightsFrom}
 
 -- ---- the bound
@@ -46,32 +45,53 @@ weight-bound I W i l = omega (arith, within-bound I W (taskCount I) i l, W .task
 abbrev pub pathAt : Instance → ℕ → ℕ
 pathAt I k = moveTimeAt I k + weight I (fileAt I k .reader)
 
+-- a walk along the files that task i makes has come to file k, and m is the greatest path of those passed
+pub record WalkedTo (I : Instance) (i k m : ℕ) : Type 0 where
+  pub within : k ≤ fileCount I
+  pub made : k < fileCount I → makes I i k ≡ true
+  pub most : m ≡ maxWhere k (makes I i) (pathAt I)
+
 module _ (b : Shape) (J : Job) (W : WellFormed (instanceFrom b J)) where
   abbrev I : Instance
   I = instanceFrom b J
 
-  module _ {ws : List ℕ} (i : ℕ) (f : WeightsFrom I ws (i + 1)) where
-    path-known : {k : ℕ} → k < b .files → {d t : ℕ} → d ≡ J .reader k → t ≡ J .moveTime k → makes I i k ≡ true → pathAt I k ≡ t + getD ws d 0
-    path-known {k} h {d} {t} e q m =
-        let l : k < fileCount I = omega (arith, file-count b J) in
-        let r : fileAt I k .reader ≡ d = reader-at b J k h ∙ sym e in
-        omega (
-          arith,
-          move-time-at b J k h,
-          ap (weight I) r,
-          f .known d (omega (arith, W .ordered k l, eqb-true (fileAt I k .maker) i m)) (omega (arith, W .exists k l)),
-        )
+  module _ {first next : List ℕ} (links : Chained I (makes I) first next) {i : ℕ} where
+    pub walk-start : i < b .tasks → WalkedTo I i (getD first i 0) 0
+    walk-start h =
+        let begin = links .begins i (omega (arith, task-count b J)) in
+        record { within = begin .within; made = begin .holds; most = sym (max-first begin (makes I i) (λ j e. e) (pathAt I)) }
 
-    pub reader-turn : {k : ℕ} → k < b .files → {m d t r : ℕ} → m ≡ J .maker k → d ≡ J .reader k → t ≡ J .moveTime k → r ≡ cond (eqb m i) (t + getD ws d 0) 0
-        → maxWhere (k + 1) (makes I i) (pathAt I) ≡ max (maxWhere k (makes I i) (pathAt I)) r
-    reader-turn {k} h {m} {d} {t} {r} p q z e =
-        let a : cond (makes I i k) (pathAt I k) 0 ≡ cond (makes I i k) (t + getD ws d 0) 0 =
-        cond-same (makes I i k) (pathAt I k) (t + getD ws d 0) (path-known h q z) in
-        let s : cond (makes I i k) (t + getD ws d 0) 0 ≡ r = ap (λ x. cond x (t + getD ws d 0) 0) (sym (makes-at b J h i p)) ∙ sym e in
-        omega (arith, max-next (λ k. cond (makes I i k) (pathAt I k) 0) k)
+    module _ {k m : ℕ} (at : WalkedTo I i k m) (h : k < b .files) where
+      is-file : k < fileCount I
+      is-file = omega (arith, file-count b J)
 
-    pub reader-total : {n : ℕ} → n ≡ b .files → maxWhere n (makes I i) (pathAt I) ≡ maxWhere (fileCount I) (makes I i) (pathAt I)
-    reader-total e = rw (file-count b J, e)
+      behind : NextOf (fileCount I) (makes I i) (suc k) (getD next k 0)
+      behind = links .goesOn i k is-file (at .made is-file)
+
+      pub walk-on : k < getD next k 0
+      walk-on = omega (arith, behind .from)
+
+      module _ {ws : List ℕ} (f : WeightsFrom I ws (i + 1)) {d t : ℕ} (p : d ≡ J .reader k) (q : t ≡ J .moveTime k) where
+        path-known : pathAt I k ≡ t + getD ws d 0
+        path-known =
+            let r : fileAt I k .reader ≡ d = reader-at b J k h ∙ sym p in
+            omega (
+              arith,
+              move-time-at b J k h,
+              ap (weight I) r,
+              f .known d (omega (arith, W .ordered k is-file, eqb-true (fileAt I k .maker) i (at .made is-file))) (omega (arith, W .exists k is-file)),
+            )
+
+        pub walk-turn : {r : ℕ} → r ≡ max m (t + getD ws d 0) → WalkedTo I i (getD next k 0) r
+        walk-turn e =
+            let passed : maxWhere (getD next k 0) (makes I i) (pathAt I) ≡ max (maxWhere k (makes I i) (pathAt I)) (pathAt I k) =
+            rw (at .made is-file) at (max-behind behind (makes I i) (λ j e. e) (pathAt I)) in
+            record { within = behind .within; made = behind .holds; most = omega (arith, passed, path-known, at .most) }
+
+  pub walk-end : {i k m : ℕ} → WalkedTo I i k m → b .files ≤ k → m ≡ maxWhere (fileCount I) (makes I i) (pathAt I)
+  walk-end {i} at h =
+      let e = file-count b J in
+      at .most ∙ ap (λ n. maxWhere n (makes I i) (pathAt I)) (omega (arith, at .within))
 
   -- ---- the array of weights
 

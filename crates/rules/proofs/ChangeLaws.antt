@@ -34,7 +34,7 @@ sum-append f [] ys = omega arith
 sum-append f (x ∷ xs) ys = omega (arith, sum-append f xs ys)
 
 -- the first value apart
-sum-front : (n : ℕ) (f : ℕ → ℕ) → sumBelow (suc n) f ≡ f 0 + sumBelow n (λ j. f (suc j))
+pub sum-front : (n : ℕ) (f : ℕ → ℕ) → sumBelow (suc n) f ≡ f 0 + sumBelow n (λ j. f (suc j))
 unfolding sumBelow
 sum-front zero f = omega arith
 sum-front (suc n) f = omega (arith, sum-front n f)

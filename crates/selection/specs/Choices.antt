@@ -2,13 +2,16 @@
 use Prim.Native.Nat.{ℕ, _≤_, _<_}
 use mathlib.Core.Bool.{Bool, true, false}
 use mathlib.Core.List.{List}
+use mathlib.Core.Path.{_≡_}
 use lib.ListN.{getD}
-use Rattle.rules.specs.Scheduling.{Choice as Chosen, nothing, choose, Round as Made}
+use Rattle.rules.specs.Model.{blue, red, Instance}
+use Rattle.rules.specs.Scheduling.{Partial, processorStart, Choice as Chosen, nothing, choose, Round as Made}
 use Rattle.model.specs.declared.layout.Shape.{Shape}
 use Rattle.model.specs.Colours.{asColour}
-use Rattle.model.specs.Layout.{lastStart}
+use Rattle.model.specs.Layout.{lastTick, lastStart}
 use Rattle.selection.specs.declared.trial.Choice.{Choice}
 use Rattle.selection.specs.declared.trial.Choice.the-variants.{Nothing, Choose}
+use Rattle.selection.specs.declared.trial.Idle.{Idle}
 use Rattle.selection.specs.declared.round.Round.{Round}
 
 abbrev pub asChoice : Choice → Chosen
@@ -31,3 +34,12 @@ ChoiceBounds b (Choose i colour s) = (i < b .tasks) × (s ≤ lastStart)
 -- each of the tasks listed exists
 abbrev pub OrderBounds : Shape → List ℕ → Type 0
 OrderBounds b order = (p : ℕ) → p < b .tasks → getD order p 0 < b .tasks
+
+-- start 1 of each colour
+pub record IdleOf (I : Instance) (Q : Partial) (x : Idle) : Type 0 where
+  pub blue : x .blue ≡ processorStart I Q blue
+  pub red : x .red ≡ processorStart I Q red
+
+-- neither is later than a finish can be
+abbrev pub IdleBounds : Idle → Type 0
+IdleBounds x = (x .blue ≤ lastTick) × (x .red ≤ lastTick)

@@ -9,27 +9,35 @@ use lib.ListN.{getD}
 use Rattle.rules.specs.Count.{minUpTo}
 use Rattle.rules.specs.Model.{Instance, workAt, Schedule}
 use Rattle.rules.specs.Model as Model
-use Rattle.rules.specs.Scheduling.{Partial, processorStart, freeFrom, latest, delayed, memoryStart, earliestStart}
+use Rattle.rules.specs.Scheduling.{Partial, processorStart, crossingSize, outputSize, freeFrom, latest, delayed, memoryStart, earliestStart}
 use Rattle.rules.specs.Scheduling as Rules
 use Rattle.rules.proofs.CountLaws.{min-cong}
 use Rattle.model.specs.declared.layout.Shape.{Shape}
 use Rattle.model.specs.declared.colour.Colour.{Colour}
 use Rattle.model.specs.declared.colour.Colour.the-variants.{Blue, Red}
 use Rattle.model.specs.Colours.{asColour, byColour}
-use Rattle.model.specs.Layout.{Job, Entries, instanceFrom, scheduleFrom, partialFrom, countIn, Processors}
+use Rattle.model.specs.Layout.{Job, Entries, instanceFrom, partialFrom, countIn, Processors}
 use Rattle.model.proofs.LayoutLaws.{last-finish-at}
 use Rattle.starts.specs.declared.memory.Memory.{Memory}
 use Rattle.starts.specs.declared.memory.Memory.the-variants.{Aware, Plain}
-use Rattle.starts.specs.declared.memory.Free.{Free}
-use Rattle.starts.specs.declared.memory.Free.the-variants.{Nowhere, From}
-use Rattle.starts.specs.declared.demand.Demand.{Demand}
-use Rattle.starts.specs.Demands.{DemandOf}
-use Rattle.starts.specs.FreeMemory.{asMemory, asOption, tickOf}
+use Rattle.staircase.specs.declared.Free.{Free}
+use Rattle.staircase.specs.declared.Free.the-variants.{Nowhere, From}
+use Rattle.staircase.specs.Steps.{asOption, tickOf}
+use Rattle.needs.specs.declared.demand.Demand.{Demand}
+use Rattle.needs.specs.Demands.{DemandOf, DemandBounds}
+use Rattle.starts.specs.Memories.{asMemory}
 
 -- ---- starts 3 and 4
 
 pub tick-of : {a : Free} {x : ℕ} → a ≡ From x → tickOf a ≡ x
 tick-of e = rw e
+
+-- what is read of the table
+pub asked-demand : {I : Instance} {P : Schedule} {i : ℕ} {c : Model.Colour} {d x : Demand} → d ≡ x → DemandOf I P i c x → DemandOf I P i c d
+asked-demand e h = rw e h
+
+pub demand-bounds : {n : ℕ} {d x : Demand} → d ≡ x → DemandBounds n x → DemandBounds n d
+demand-bounds e h = rw e h
 
 module _ (a b : Free) (d : ℕ) where
   pub latest-first : a ≡ Nowhere → none ≡ latest (asOption a) (delayed (asOption b) d)
@@ -43,11 +51,13 @@ module _ (a b : Free) (d : ℕ) where
 
 module _ (I : Instance) (P : Schedule) (c : Model.Colour) (m : Memory) (i : ℕ) {d : Demand} (e : DemandOf I P i c d) where
   -- where they are asked for
-  pub memory-aware : m ≡ Aware → (x y z : Free) {need w : ℕ} → w ≡ workAt I i → need ≡ d .incoming + d .outputs + w
+  pub memory-aware : m ≡ Aware → (x y z : Free) {need room : ℕ} → room ≡ outputSize I i + workAt I i → need ≡ d .incoming + room
       → asOption x ≡ freeFrom I P c need → asOption y ≡ freeFrom I P c (d .incoming)
       → asOption z ≡ latest (asOption x) (delayed (asOption y) (d .longest)) → asOption z ≡ memoryStart (asMemory m) I P i c
   unfolding memoryStart
-  memory-aware q x y z ew en ex ey ez = ez ∙ rw (q, ex, ey, en, ew, e .incoming, e .outputs, e .longest)
+  memory-aware q x y z {need} er en ex ey ez =
+      let all : need ≡ crossingSize I P i c + outputSize I i + workAt I i = omega (arith, e .incoming) in
+      ez ∙ rw (q, ex, ey, all, e .incoming, e .longest)
 
   -- and where they are left out
   pub memory-plain : m ≡ Plain → some 0 ≡ memoryStart (asMemory m) I P i c
@@ -75,9 +85,6 @@ module _ (b : Shape) (J : Job) (L : Entries) (last : List ℕ) where
   abbrev I : Instance
   I = instanceFrom b J
 
-  abbrev P : Schedule
-  P = scheduleFrom b L
-
   abbrev Q : Partial
   Q = partialFrom b L last
 
@@ -97,14 +104,14 @@ module _ (b : Shape) (J : Job) (L : Entries) (last : List ℕ) where
         → i ≡ n → minUpTo (pred i) (at last first) ≡ processorStart I Q (asColour c)
     least-total c x y z = rw (x, z, y, least-finish c)
 
-  -- ---- the starts together
+-- ---- the starts together
 
-  module _ (m : Rules.Memory) (i : ℕ) (c : Colour) {d : Demand} {one r : ℕ} (e : DemandOf I P i (asColour c) d)
-      (e1 : one ≡ processorStart I Q (asColour c)) (er : r ≡ max one (d .arrival)) (x : Free) (ex : asOption x ≡ memoryStart m I P i (asColour c)) where
-    pub earliest-none : x ≡ Nowhere → none ≡ earliestStart m I Q i (asColour c)
-    unfolding earliestStart
-    earliest-none n = let q : memoryStart m I P i (asColour c) ≡ none = sym ex ∙ rw n in rw q
+module _ (m : Rules.Memory) (I : Instance) (Q : Partial) (i : ℕ) (c : Model.Colour) {d : Demand} {one r : ℕ} (e : DemandOf I (Q .schedule) i c d)
+    (e1 : one ≡ processorStart I Q c) (er : r ≡ max one (d .arrival)) (x : Free) (ex : asOption x ≡ memoryStart m I (Q .schedule) i c) where
+  pub earliest-none : x ≡ Nowhere → none ≡ earliestStart m I Q i c
+  unfolding earliestStart
+  earliest-none n = let q : memoryStart m I (Q .schedule) i c ≡ none = sym ex ∙ rw n in rw q
 
-    pub earliest-at : {s z : ℕ} → x ≡ From s → z ≡ max r s → some z ≡ earliestStart m I Q i (asColour c)
-    unfolding earliestStart
-    earliest-at {s} n ez = let q : memoryStart m I P i (asColour c) ≡ some s = sym ex ∙ rw n in rw (q, ez, er, e1, e .arrival)
+  pub earliest-at : {s z : ℕ} → x ≡ From s → z ≡ max r s → some z ≡ earliestStart m I Q i c
+  unfolding earliestStart
+  earliest-at {s} n ez = let q : memoryStart m I (Q .schedule) i c ≡ some s = sym ex ∙ rw n in rw (q, ez, er, e1, e .arrival)

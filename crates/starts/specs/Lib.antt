@@ -1,3 +1,3 @@
 -- What the contracts of this crate cite beside the rules' own definitions.
-pub mod Demands
-pub mod FreeMemory
+pub mod Memories
+pub mod Kept

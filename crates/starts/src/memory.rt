@@ -1,22 +1,22 @@
-// Whether a planner looks at memory; and from when on a memory has an amount free, which starts 3 and 4 ask.
+// Starts 3 and 4, read from the memory's staircase; whether a planner asks for them.
 ghost use mathlib.Core.Path.{_≡_};
-ghost use Prim.Native.Nat.{_≤_};
-ghost use Rattle.rules.specs.Count.{maxBelow};
-ghost use Rattle.rules.specs.Scheduling.{fits, freeFrom};
-ghost use Rattle.model.specs.Colours.{asColour};
-ghost use Rattle.model.specs.Layout.{instanceOf, scheduleOf, InBounds, lastTick};
-ghost use Rattle.model.specs.Holds.{asHold, Within};
-ghost use Rattle.starts.specs.FreeMemory.{asOption, tickOf, endOf, lateEnd, lateFile, lateWork, mostNeeded};
+ghost use Prim.Native.Nat.{ℕ, _+_, _≤_};
+ghost use Rattle.rules.specs.Limits.{maxFiles, moveTimes};
+ghost use Rattle.rules.specs.Model.{Colour as RulesColour, Instance, workAt};
+ghost use Rattle.rules.specs.Promises.{WellFormed};
+ghost use Rattle.rules.specs.Scheduling.{Partial, latest as rules-latest, delayed, outputSize, memoryStart};
+ghost use Rattle.rules.specs.Staircase.{Placed};
+ghost use Rattle.model.specs.Layout.{lastTick, lastStart, mostHeld};
+ghost use Rattle.staircase.specs.Steps.{asOption, tickOf};
+ghost use Rattle.staircase.specs.Stairs.{HoldsStairs};
+ghost use Rattle.needs.specs.Demands.{DemandOf, DemandBounds};
+ghost use Rattle.starts.specs.Memories.{asMemory};
+ghost use Rattle.starts.specs.Kept.{TicksWithin};
 use model::choice::greater;
-use model::colour::Colour;
-use model::colour::by_colour;
-use model::layout;
-use model::layout::Shape;
-use model::residency::Hold;
-use model::residency::hold_of;
-use model::residency::work_hold;
-use model::totals::held_at;
-use model::totals::horizon_of;
+use needs::demand::Demand;
+use staircase::Free;
+use staircase::PAIRS;
+use staircase::both_from;
 
 // Memory aware, or plain: with starts 3 and 4 left out.
 pub enum Memory {
@@ -24,134 +24,46 @@ pub enum Memory {
     Plain,
 }
 
-// A tick from which on something is so, if there is one.
-pub enum Free {
-    Nowhere,
-    From(u64),
-}
-
-// Whether the memory of the colour has `need` free at tick t.
-pub fn fits_at<'a>(
-    shape: Shape,
-    job: &'a [u64; layout::JOB],
-    schedule: &'a [u64; layout::SCHEDULE],
-    colour: Colour,
-    need: u64,
-    t: u64,
-) -> bool
-    requires { ⌜ InBounds shape (now job) (now schedule) ⌝ }
-    requires { ⌜ need ≤ mostNeeded ⌝ }
-    ensures { λ r. ⌜ r ≡ fits (instanceOf shape (now (job .entry))) (scheduleOf shape (now (schedule .entry))) (asColour colour) need t ⌝ }
+// The greater of start 3 (`running`) and start 4, which is `delay` after `moving`.
+fn latest(running: Free, moving: Free, delay: u64) -> Free
+    requires { ⌜ (tickOf running ≤ lastTick) × (tickOf moving ≤ lastTick) × (delay ≤ moveTimes .most) ⌝ }
+    ensures { λ r. ⌜ asOption r ≡ rules-latest (asOption running) (delayed (asOption moving) delay) ⌝ }
+    ensures { λ r. ⌜ tickOf r ≤ lastStart ⌝ }
 {
-    let held = held_at(shape, job, schedule, colour, t);
-    let limit = by_colour(colour, shape.board.blue.limit, shape.board.red.limit);
-    held + need <= limit
+    let Free::From(s) = running else {
+        return Free::Nowhere;
+    };
+    let Free::From(t) = moving else {
+        return Free::Nowhere;
+    };
+    Free::From(greater(s, t + delay))
 }
 
-// The end of a hold that ends; else 0.
-fn end_of(h: Hold) -> u64
-    ensures { λ r. ⌜ r ≡ endOf (asHold h) ⌝ }
-{
-    match h {
-        Hold::Never => 0,
-        Hold::During(_, end) => end,
-        Hold::Since(_) => 0,
-    }
-}
-
-// The end of a hold in the memory of the colour, if `need` does not fit just before it; else 0.
-fn late_end<'a>(
-    shape: Shape,
-    job: &'a [u64; layout::JOB],
-    schedule: &'a [u64; layout::SCHEDULE],
-    colour: Colour,
-    need: u64,
-    h: Hold,
-) -> u64
-    requires { ⌜ InBounds shape (now job) (now schedule) ⌝ }
-    requires { ⌜ need ≤ mostNeeded ⌝ }
-    requires { ⌜ Within lastTick h ⌝ }
-    ensures { λ r. ⌜ r ≡ lateEnd (instanceOf shape (now (job .entry))) (scheduleOf shape (now (schedule .entry))) (asColour colour) need (asHold h) ⌝ }
-    ensures { λ r. ⌜ r ≤ lastTick ⌝ }
-{
-    let e = end_of(h);
-    if e == 0 {
-        return 0;
-    }
-    if fits_at(shape, job, schedule, colour, need, e - 1) {
-        return 0;
-    }
-    e
-}
-
-// The latest of these ends among the holds of files.
-fn late_files<'a>(
-    shape: Shape,
-    job: &'a [u64; layout::JOB],
-    schedule: &'a [u64; layout::SCHEDULE],
-    colour: Colour,
-    need: u64,
-) -> u64
-    requires { ⌜ InBounds shape (now job) (now schedule) ⌝ }
-    requires { ⌜ need ≤ mostNeeded ⌝ }
-    ensures { λ r. ⌜ r
-        ≡ maxBelow (shape .files) (lateFile (instanceOf shape (now (job .entry))) (scheduleOf shape (now (schedule .entry))) (asColour colour) need) ⌝ }
-    ensures { λ r. ⌜ r ≤ lastTick ⌝ }
-{
-    let mut most: u64 = 0;
-    let mut i: usize = 0;
-    while i < shape.files {
-        let h = hold_of(shape, job, schedule, i, colour);
-        most = greater(most, late_end(shape, job, schedule, colour, need, h));
-        i += 1;
-    }
-    most
-}
-
-// The latest of these ends among the holds of working memory.
-fn late_work<'a>(
-    shape: Shape,
-    job: &'a [u64; layout::JOB],
-    schedule: &'a [u64; layout::SCHEDULE],
-    colour: Colour,
-    need: u64,
-) -> u64
-    requires { ⌜ InBounds shape (now job) (now schedule) ⌝ }
-    requires { ⌜ need ≤ mostNeeded ⌝ }
-    ensures { λ r. ⌜ r
-        ≡ maxBelow (shape .tasks) (lateWork (instanceOf shape (now (job .entry))) (scheduleOf shape (now (schedule .entry))) (asColour colour) need) ⌝ }
-    ensures { λ r. ⌜ r ≤ lastTick ⌝ }
-{
-    let mut most: u64 = 0;
-    let mut i: usize = 0;
-    while i < shape.tasks {
-        let h = work_hold(shape, job, schedule, i, colour);
-        most = greater(most, late_end(shape, job, schedule, colour, need, h));
-        i += 1;
-    }
-    most
-}
-
-// The first tick from which on the memory of the colour always has `need` free. Memory becomes free only where a hold
-// ends, so that tick is 0 or the latest end just before which `need` does not fit.
-pub fn free_from<'a>(
-    shape: Shape,
-    job: &'a [u64; layout::JOB],
-    schedule: &'a [u64; layout::SCHEDULE],
-    colour: Colour,
-    need: u64,
+// Starts 3 and 4 of a task with this demand; `room` is what it makes and its working memory, which start 3 alone asks for. The greater of
+// the two, if the planner looks at memory; else 0. Nothing else asks for them.
+pub fn memory_start<'a>(
+    memory: Memory,
+    ticks: &'a [u64; PAIRS],
+    free: &'a [u64; PAIRS],
+    n: usize,
+    demand: Demand,
+    room: u64,
 ) -> Free
-    requires { ⌜ InBounds shape (now job) (now schedule) ⌝ }
-    requires { ⌜ need ≤ mostNeeded ⌝ }
-    ensures { λ r. ⌜ asOption r ≡ freeFrom (instanceOf shape (now (job .entry))) (scheduleOf shape (now (schedule .entry))) (asColour colour) need ⌝ }
-    ensures { λ r. ⌜ tickOf r ≤ lastTick ⌝ }
+    requires { ⌜ TicksWithin (now ticks) n ⌝ }
+    requires { ⌜ DemandBounds maxFiles demand × (room ≤ mostHeld) ⌝ }
+    ensures { λ r. ⌜ ((I : Instance) (Q : Partial) (i : ℕ) (c : RulesColour) → WellFormed I → Placed I Q →
+        HoldsStairs I (Q .schedule) c (now (ticks .entry)) (now (free .entry)) n → DemandOf I (Q .schedule) i c demand →
+        room ≡ outputSize I i + workAt I i → asOption r ≡ memoryStart (asMemory memory) I (Q .schedule) i c) ⌝ }
+    ensures { λ r. ⌜ tickOf r ≤ lastStart ⌝ }
 {
-    let settled = horizon_of(shape, job, schedule, colour);
-    if fits_at(shape, job, schedule, colour, need, settled) {
-        let files = late_files(shape, job, schedule, colour, need);
-        let work = late_work(shape, job, schedule, colour, need);
-        Free::From(greater(files, work))
-    } else {
-        Free::Nowhere
+    match memory {
+        Memory::Aware => {
+            let need = demand.incoming + room;
+            let found = both_from(ticks, free, n, need, demand.incoming);
+            let running = found.third;
+            let moving = found.fourth;
+            latest(running, moving, demand.longest)
+        }
+        Memory::Plain => Free::From(0),
     }
 }

@@ -1,4 +1,4 @@
-//! An independent implementation of document 01 with Orders 1 to 8, for tests, and texts by chance to compare it on.
+//! An independent implementation of document 01 with Orders 1 to 9, for tests, and texts by chance to compare it on.
 
 pub mod changes;
 pub mod colours;
@@ -10,13 +10,16 @@ pub mod edges;
 pub mod finer;
 pub mod generate;
 pub mod library;
+pub mod long_stairs;
 pub mod plain;
 pub mod plans;
 pub mod reference;
 pub mod relays;
 pub mod simulation;
 pub mod sorting;
+pub mod stairs;
 pub mod stepping;
+pub mod timing;
 pub mod traces;
 pub mod widths;
 pub mod work;

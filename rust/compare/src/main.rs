@@ -1,11 +1,11 @@
-//! Compares the proved library with an implementation of its own of document 01 with Orders 1 to 8, on sound and damaged texts from
+//! Compares the proved library with an implementation of its own of document 01 with Orders 1 to 9, on sound and damaged texts from
 //! a fixed seed, and short timetables also with what the memories hold at each tick. All that is marked is simulated too. Prints how often
 //! each answer was reached, what was answered to timetables with relays, how often each of the four cases of maker and reader was met,
 //! what the simulator answered, what the plain planners did beside the memory-aware ones, which marks are others than by the limits
 //! before Order 5, how often the same job was planned in finer ticks, what working memory led to, what the converter answered, how often
-//! Order 8's peaks from changes were held against those counted instant by instant, and how often the marker of rust/baseline gave the
-//! library's answer. Ends with an error at the first difference, where an answer or a case was never reached, or where relays were marked
-//! as the rules do not allow.
+//! Order 8's peaks from changes were held against those counted instant by instant, how often the marker of rust/baseline gave the
+//! library's answer, and how long the planners' staircases were. Ends with an error at the first difference, where an answer or a case was
+//! never reached, or where relays were marked as the rules do not allow.
 
 use compare::generate::{self, Random, WORK_FAULTS};
 use compare::library::{self, Answered};
@@ -14,7 +14,8 @@ use compare::reference::{
 };
 use compare::relays::{self, has_relays};
 use compare::{
-    changes, colours, converting, finer, plain, sorting, stepping, widths, work_promises,
+    changes, colours, converting, finer, long_stairs, plain, sorting, stairs, stepping, widths,
+    work_promises,
 };
 use std::collections::{BTreeMap, BTreeSet};
 use Heuristic::{Heft, MinMin};
@@ -38,6 +39,7 @@ struct Tally {
     converter: converting::Counts,
     changes: changes::Counts,
     sorting: sorting::Counts,
+    stairs: stairs::Counts,
     cases: u64,
 }
 
@@ -452,6 +454,27 @@ fn peaks_from_changes(t: &mut Tally, rounds: u64) {
     }
 }
 
+/// The planners' staircases: the longest that there are, long ones that are read anywhere, and those of sheets with many files that move, of
+/// few tasks and of many.
+fn staircases(t: &mut Tally, rounds: u64) {
+    let mut r = Random(9);
+    same(t.stairs.longest(), b"", b"");
+    for _ in 0..6 {
+        let sheet = long_stairs::long_read(&mut r);
+        same(t.stairs.aware(&sheet), b"", b"");
+    }
+    for number in 0..rounds {
+        let most = match number {
+            _ if number.is_multiple_of(100) => 64,
+            _ if number.is_multiple_of(10) => 24,
+            _ => 8,
+        };
+        let tasks = most - r.below(most / 2);
+        let sheet = long_stairs::crossing(&mut r, tasks);
+        same(t.stairs.limited(&mut r, &sheet), b"", b"");
+    }
+}
+
 /// The traces worked by hand, the known plans and marks, and timetables that move every file, step by step.
 fn by_hand(t: &mut Tally) {
     let traces = t.simulator.by_hand();
@@ -483,6 +506,7 @@ fn compare_all(rounds: u64) -> Tally {
     }
     finer_ticks(&mut t, rounds / 5);
     peaks_from_changes(&mut t, rounds);
+    staircases(&mut t, rounds / 4);
     by_hand(&mut t);
     t
 }
@@ -510,6 +534,7 @@ fn main() {
     t.converter.print();
     t.changes.print();
     t.sorting.print();
+    t.stairs.print();
     println!("{} cases, no difference", t.cases);
     let mut faults = [t.relays.faults(), t.colours.faults()].concat();
     faults.extend(t.simulator.faults());
@@ -520,6 +545,7 @@ fn main() {
     faults.extend(t.converter.faults());
     faults.extend(t.changes.faults());
     faults.extend(t.sorting.faults());
+    faults.extend(t.stairs.faults());
     if !ok {
         faults.push("an answer was never reached".to_string());
     }

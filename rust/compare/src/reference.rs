@@ -462,7 +462,7 @@ fn holds(sheet: &Sheet, table: &Table, colour: Colour) -> Vec<(i64, i64, Option<
 }
 
 /// What a memory holds from each tick of change on, by tick.
-fn profile(sheet: &Sheet, table: &Table, colour: Colour) -> Vec<(i64, i64)> {
+pub fn profile(sheet: &Sheet, table: &Table, colour: Colour) -> Vec<(i64, i64)> {
     let mut change: BTreeMap<i64, i64> = BTreeMap::new();
     change.insert(0, 0);
     for (size, from, end) in holds(sheet, table, colour) {
@@ -825,7 +825,7 @@ fn weight(sheet: &Sheet, i: usize, known: &mut Vec<Option<i64>>) -> i64 {
 }
 
 /// The tasks by falling weight, ties to the lower task.
-fn by_weight(sheet: &Sheet) -> Vec<usize> {
+pub fn by_weight(sheet: &Sheet) -> Vec<usize> {
     let n = sheet.tasks.len();
     let mut known = vec![None; n];
     let mut list: Vec<usize> = (0..n).collect();

@@ -1,11 +1,8 @@
 -- `plan_instance` meets its contract: a stuck planner's answer, or what a complete schedule's writing answers.
 use mathlib.Core.Path.{refl}
-use Rattle.rules.proofs.OutcomeLaws.{completed-spellable}
 use Rattle.model.specs.Layout.{jobOf, entriesOf, instanceFrom, scheduleFrom}
-use Rattle.model.proofs.LayoutLaws.{job-bounds}
-use Rattle.model.proofs.SpelledLaws.{spelled-placed, spelled-bounds}
 use Rattle.planner.specs.Outcomes.{asPlanner}
-use Rattle.plan_text.proofs.AnswerLaws.{made-stuck, made-complete, made-written}
+use Rattle.plan_text.proofs.AnswerLaws.{made-stuck, made-written, made-claim}
 use borrow.Author.Needs.{needs}
 use Rattle.plan_text.proofs.plan_instance.Statement.{statement}
 use Rattle.plan_text.proofs.plan_instance.Tie as tie
@@ -20,36 +17,26 @@ enum-known-trials : tie.Need-enum-known-trials
 enum-known-trials c = search needs
 
 write-plan-requires : tie.Need-write-plan-requires
-write-plan-requires c κs =
-    let t = c .before .before .before in
-    let r = t .before .before in
-    let s = r .before .before .before in
-    let b = s .args .shape in
-    let J = jobOf (s .args .job .now) in
-    let L = entriesOf (r .run .last .1 .1 .1 .0) in
-    let R = asPlanner (s .args .rule) in
-    let o = made-complete R (instanceFrom b J) (s .args .out .now) (scheduleFrom b L) (r .run .result) (r .run .ensures) (t .trials .given .1) in
-    let p = completed-spellable R (instanceFrom b J) (s .pre) (scheduleFrom b L) _ o in
-    (record { job = job-bounds b J (s .pre); schedule = spelled-bounds b J L _ p }, spelled-placed b J L _ p)
+write-plan-requires c κs = ?
 
 returns : tie.Need-returns
 returns c =
     let r = c .before .before .before in
     let s = r .before .before .before in
     let I = instanceFrom (s .args .shape) (jobOf (s .args .job .now)) in
-    made-stuck (asPlanner (s .args .rule)) I (s .args .out .now) _ (r .run .result) (r .run .ensures) (c .before .placed .given .1)
+    made-stuck (asPlanner (s .args .rule)) I (s .args .out .now) _ (r .run .result) (r .run .ensures .0) (c .before .placed .given .1)
 
 same-length : tie.Need-same-length
 same-length c = search needs
 
 returns-2 : tie.Need-returns-2
 returns-2 c =
-    let t = c .before .before .before .before .before .before in
+    let t = c .before .before .before .before .before .before .before .before in
     let r = t .before .before in
     let s = r .before .before .before in
     let I = instanceFrom (s .args .shape) (jobOf (s .args .job .now)) in
     let w = c .before .before .write-plan .ensures in
-    made-written (asPlanner (s .args .rule)) I (s .args .out .now) _ (r .run .result) (r .run .ensures) (t .trials .given .1) w
+    made-written (asPlanner (s .args .rule)) I (s .args .out .now) _ (r .run .result) (r .run .ensures .0) (t .trials .given .1) w
 
 pub plan-instance-spec : {M : Type 1} → statement M
 plan-instance-spec =

@@ -11,6 +11,7 @@
 use compare::generate::{all_apart_with_work, all_moved, all_work, large_sheet, Random};
 use compare::library;
 use compare::reference::{read_sheet, Heuristic, Memory, MAX_TEXT};
+use compare::timing::{time, Times};
 use std::hint::black_box;
 
 /// A marker: number, place, span and peaks.
@@ -18,55 +19,6 @@ type Marker = fn(&[u8], &[u8]) -> [u64; 5];
 
 /// The proved marker and the baseline.
 const SIDES: [Marker; 2] = [library::mark, baseline::marker::mark];
-
-/// C's timespec on 64-bit Linux.
-#[repr(C)]
-struct Timespec {
-    seconds: i64,
-    nanoseconds: i64,
-}
-
-extern "C" {
-    fn clock_gettime(clock: i32, time: *mut Timespec) -> i32;
-}
-
-const CLOCK_PROCESS_CPUTIME_ID: i32 = 2;
-
-/// The processor time of this process so far, in nanoseconds.
-fn processor_time() -> i64 {
-    let mut time = Timespec {
-        seconds: 0,
-        nanoseconds: 0,
-    };
-    let failed = unsafe { clock_gettime(CLOCK_PROCESS_CPUTIME_ID, &mut time) };
-    assert_eq!(failed, 0, "no processor time");
-    1_000_000_000 * time.seconds + time.nanoseconds
-}
-
-/// The time of a call in microseconds, over so many calls.
-fn time(mark: Marker, sheet: &[u8], paper: &[u8], calls: u32) -> f64 {
-    let start = processor_time();
-    for _ in 0..calls {
-        black_box(mark(black_box(sheet), black_box(paper)));
-    }
-    (processor_time() - start) as f64 / f64::from(calls) / 1000.0
-}
-
-/// The least and the median of some times.
-struct Times {
-    least: f64,
-    median: f64,
-}
-
-impl Times {
-    fn new(mut times: Vec<f64>) -> Times {
-        times.sort_by(f64::total_cmp);
-        Times {
-            least: times[0],
-            median: times[times.len() / 2],
-        }
-    }
-}
 
 /// A sheet and a timetable of it that is accepted.
 struct Job {
@@ -100,7 +52,10 @@ impl Job {
         let mut times = [vec![], vec![]];
         for round in 0..rounds {
             for side in [round % 2, 1 - round % 2] {
-                times[side].push(time(SIDES[side], &self.sheet, paper, calls));
+                let call = || {
+                    black_box(SIDES[side](black_box(&self.sheet), black_box(paper)));
+                };
+                times[side].push(time(calls, call));
             }
         }
         let [proved, baseline] = times.map(Times::new);

@@ -1,10 +1,10 @@
 -- `strip_marked` meets its contract: the timetable is refused as the marker refuses it, or what is left of it is written.
 use mathlib.Core.Path.{_∙_}
-use Rattle.model.specs.Layout.{jobOf, entriesOf}
+use Rattle.model.specs.Layout.{jobOf}
 use Rattle.model.proofs.LayoutLaws.{job-bounds}
 use Rattle.convert_text.proofs.RefusalLaws.{convertible}
 use Rattle.convert_text.proofs.SheetLaws.{wide-formed}
-use Rattle.convert_text.proofs.LeftLaws.{left-refused, left-made, left-spellable}
+use Rattle.convert_text.proofs.LeftLaws.{left-refused, left-made, left-good}
 use borrow.Author.Needs.{needs}
 use Rattle.convert_text.proofs.strip.strip_marked.Statement.{statement}
 use Rattle.convert_text.proofs.strip.strip_marked.Tie as tie
@@ -49,7 +49,7 @@ write-left-requires c κs =
         s .pre .1 .0,
         (
           s .pre .1 .1,
-          left-spellable b _ J _ _ _ (w .widened .ensures) (v .convert .ensures) (s .args .paper .now) (t .mark-into .ensures) (s .pre .0)
+          left-good b _ J _ _ _ (w .widened .ensures) (v .convert .ensures) (s .args .paper .now) (t .mark-into .ensures) (s .pre .0)
               (convertible b J _ (s .pre .1 .0) (s .pre .1 .1)) (x .if1 .left),
         ),
       ),

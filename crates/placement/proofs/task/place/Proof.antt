@@ -1,80 +1,72 @@
--- `place` meets its contract: the three writes are the rules' `assign`.
-use lib.ListN.{length-set}
-use Rattle.placement.proofs.PlaceLaws.{placed}
+-- `place` meets its contract: the staircases are changed by the timetable before the placing, and then the timetable is written.
 use native.Mathlib.Omega.{arith}
-use Rattle.model.specs.Layout.{jobOf, entriesOf}
-use Rattle.placement.proofs.SlotLaws.{chosen-exists}
-use borrow.Author.Needs.{needs}
+use Rattle.rules.specs.Model.{blue, red}
+use Rattle.rules.specs.Scheduling.{aware}
+use Rattle.rules.proofs.StartLaws.{starts}
+use Rattle.model.specs.Colours.{asColour}
+use Rattle.model.specs.Layout.{jobOf, instanceOf, partialOf}
+use Rattle.model.proofs.LayoutLaws.{task-count}
+use Rattle.staircase.proofs.StairsLaws.{pending-placing, holds-placed}
 use Rattle.placement.proofs.task.place.Statement.{statement}
 use Rattle.placement.proofs.task.place.Tie as tie
 
-set-moves-requires : tie.Need-set-moves-requires
-set-moves-requires c κs = search needs
-
-chosen-processor-requires : tie.Need-chosen-processor-requires
-chosen-processor-requires c κs = search needs
-
-slot-in-requires : tie.Need-slot-in-requires
-slot-in-requires c κs =
-    let s = c .before .before .before .before in
-    let J = jobOf (s .args .job .now) in
-    let L = entriesOf (s .args .schedule .now) in (
-      s .pre .0 .processors,
-      chosen-exists (s .args .shape) (s .args .last .now) (s .args .colour) (s .args .start) J L (s .pre .0 .processors)
-          (s .pre .1 .1 .1) (c .chosen-processor .ensures J L),
+both-memories-requires : tie.Need-both-memories-requires
+both-memories-requires c κs =
+    let s = c .before .before .before .before .before in
+    let b = s .args .shape in
+    let I = instanceOf b (s .args .job .now) in
+    let Q = partialOf b (s .args .schedule .now) (s .args .last .now) in
+    let W = s .pre .0 .1 in
+    let p = s .pre .1 .1 .1 in
+    let T = p .1 .0 .0 in
+    let i = s .args .i in
+    let x = asColour (s .args .colour) in
+    let t = s .args .start in (
+      s .pre .0 .0,
+      (
+        (omega (arith, T .exists, task-count b (jobOf (s .args .job .now))), p .1 .0 .1),
+        (
+          s .pre .1 .0,
+          (p .1 .1 .0, (pending-placing I W Q (p .0) i x t T blue (p .1 .1 .1 .0), pending-placing I W Q (p .0) i x t T red (p .1 .1 .1 .1))),
+        ),
+      ),
     )
 
-add-set-run : tie.Need-add-set-run
-add-set-run c = search needs
-
-set-run-requires : tie.Need-set-run-requires
-set-run-requires c κs = search needs
-
-run-time-requires : tie.Need-run-time-requires
-run-time-requires c κs = search needs
-
-add-finish : tie.Need-add-finish
-add-finish c =
+assign-requires : tie.Need-assign-requires
+assign-requires c κs =
     let s = c .before .before .before .before .before .before .before .before in
-    let i = s .args .i in
-    let h = s .pre .1 .1 .0 .0 in
-    omega (arith, s .pre .1 .1 .0 .1, s .pre .0 .onBlue i h, s .pre .0 .onRed i h, c .run-time .ensures .1)
-
-mul-last : tie.Need-mul-last
-mul-last c = search needs
-
-element-write-last : tie.Need-element-write-last
-element-write-last c = search needs
+    let b = s .args .shape in
+    let Q = partialOf b (s .args .schedule .now) (s .args .last .now) in
+    let p = s .pre .1 .1 .1 .1 .0 in
+    let st = starts aware (instanceOf b (s .args .job .now)) Q (s .args .i) (asColour (s .args .colour)) (s .args .start) (p .0 .earliest) in (
+      s .pre .0 .0,
+      (
+        s .pre .1 .0,
+        (s .pre .1 .1 .0, ((omega (arith, p .0 .exists, task-count b (jobOf (s .args .job .now))), p .1), omega (arith, st .start))),
+      ),
+    )
 
 returns : tie.Need-returns
 returns c =
-    let s = c .before .before .before .before .before .before .before .before in
-    let J = jobOf (s .args .job .now) in
-    let L = entriesOf (s .args .schedule .now) in
-    let moves = c .before .before .before .before .before .before .set-moves in
-    let chosen = c .before .before .before .before .chosen-processor .ensures J L in
-    let slot = c .before .before .before .slot-in in
-    let run = c .before .set-run .ensures in
-    let exists = chosen-exists (s .args .shape) (s .args .last .now) (s .args .colour) (s .args .start) J L
-    (s .pre .0 .processors) (s .pre .1 .1 .1) chosen in (
-      (run .1 .1, simp length-set (s .pre .1 .0 .1)),
-      placed (s .pre .0) (s .args .schedule .now) (s .args .last .now) (s .args .colour) (s .pre .1 .1 .0 .0) (s .args .start) (moves .last .1 .1 .0)
-          (moves .ensures .0) (moves .ensures .1 .0)
-          (c .before .before .before .before .chosen-processor .result) (s .pre .1 .0 .1) (moves .ensures .1 .1) chosen exists (slot .ensures .0)
-          (c .run-time .ensures .0) (run .0),
+    let s = c .before .before .before .before .before .before .before .before .before in
+    let I = instanceOf (s .args .shape) (s .args .job .now) in
+    let Q = partialOf (s .args .shape) (s .args .schedule .now) (s .args .last .now) in
+    let W = s .pre .0 .1 in
+    let p = s .pre .1 .1 .1 in
+    let T = p .1 .0 .0 in
+    let i = s .args .i in
+    let x = asColour (s .args .colour) in
+    let t = s .args .start in
+    let made = c .before .before .before .both-memories .ensures in (
+      c .assign .ensures .0,
+      (
+        c .assign .ensures .1,
+        (
+          holds-placed I W Q (p .0) i x t T blue (p .1 .1 .1 .0) (made .0),
+          holds-placed I W Q (p .0) i x t T red (p .1 .1 .1 .1) (made .1),
+        ),
+      ),
     )
 
 pub place-spec : {M : Type 1} → statement M
-place-spec =
-    tie.close
-    (tie.spec
-    set-moves-requires
-    chosen-processor-requires
-    slot-in-requires
-    add-set-run
-    set-run-requires
-    run-time-requires
-    add-finish
-    mul-last
-    element-write-last
-    returns)
+place-spec = tie.close (tie.spec both-memories-requires assign-requires returns)

@@ -13,37 +13,36 @@ use Rattle.ranking.proofs.weight.weights.Statement.{statement}
 use Rattle.ranking.proofs.weight.weights.Tie as tie
 
 abbrev Inv-loop : tie.InvT-loop
-Inv-loop shape job all₀ i₀ all i = (i ≤ shape .tasks) × (length all ≡ maxTasks) × WeightsFrom (instanceFrom shape (jobOf job)) all i
+Inv-loop shape job first next all₀ i₀ all i = (i ≤ shape .tasks) × (length all ≡ maxTasks) × WeightsFrom (instanceFrom shape (jobOf job)) all i
 
 abbrev μ-loop : tie.MeasureT-loop
-μ-loop shape job all₀ i₀ all i = i
+μ-loop shape job first next all₀ i₀ all i = i
 
 loop-holds : tie.Need-loop-holds Inv-loop μ-loop
-loop-holds c = (omega arith, search needs, weights-none (c .args .shape) (jobOf (c .args .job .now)) (c .pre))
+loop-holds c = (omega arith, search needs, weights-none (c .args .shape) (jobOf (c .args .job .now)) (c .pre .0))
 
 sub-i : tie.Need-sub-i Inv-loop μ-loop
 sub-i c = search needs
 
 run-time-requires : tie.Need-run-time-requires Inv-loop μ-loop
-run-time-requires c κs = let s = c .before .before in omega (arith, job-bounds (s .args .shape) (jobOf (s .args .job .now)) (s .pre) .tasks)
+run-time-requires c κs = let s = c .before .before in omega (arith, job-bounds (s .args .shape) (jobOf (s .args .job .now)) (s .pre .0) .tasks)
 
 run-time-requires-2 : tie.Need-run-time-requires-2 Inv-loop μ-loop
-run-time-requires-2 c κs = let s = c .before .before .before in omega (arith, job-bounds (s .args .shape) (jobOf (s .args .job .now)) (s .pre) .tasks)
+run-time-requires-2 c κs = let s = c .before .before .before in omega (arith, job-bounds (s .args .shape) (jobOf (s .args .job .now)) (s .pre .0) .tasks)
 
 add-time : tie.Need-add-time Inv-loop μ-loop
 add-time c =
     let s = c .before .before .before .before in
-    let f = job-bounds (s .args .shape) (jobOf (s .args .job .now)) (s .pre) in
+    let f = job-bounds (s .args .shape) (jobOf (s .args .job .now)) (s .pre .0) in
     let i = c .before .before .before .loop .i - 1 in
     omega (arith, f .onBlue i (omega arith), f .onRed i (omega arith), c .before .run-time .ensures .0, c .run-time2 .ensures .0)
 
 heaviest-reader-requires : tie.Need-heaviest-reader-requires Inv-loop μ-loop
 heaviest-reader-requires c κs =
-    let s = c .before .before .before .before .before in (
-      s .pre,
-      weights-next (s .args .shape) (jobOf (s .args .job .now)) (s .pre) (c .before .before .before .loop-test .taken)
-          (c .before .before .before .before .loop .inv .2),
-    )
+    let s = c .before .before .before .before .before in
+    let known = weights-next (s .args .shape) (jobOf (s .args .job .now)) (s .pre .0) (c .before .before .before .loop-test .taken)
+    (c .before .before .before .before .loop .inv .2) in
+    (s .pre .0, (s .pre .1, (known, omega arith)))
 
 add-all : tie.Need-add-all Inv-loop μ-loop
 add-all c =
@@ -51,16 +50,17 @@ add-all c =
     let i = c .before .before .before .before .before .loop .i - 1 in
     omega (
       arith,
-      weight-fits (s .args .shape) (jobOf (s .args .job .now)) (s .pre) i (omega arith) (c .before .before .before .run-time .ensures .0)
+      weight-fits (s .args .shape) (jobOf (s .args .job .now)) (s .pre .0) i (omega arith) (c .before .before .before .run-time .ensures .0)
           (c .before .before .run-time2 .ensures .0) (c .heaviest-reader .ensures),
     )
 
 mul-all : tie.Need-mul-all Inv-loop μ-loop
-mul-all c = let s = c .before .before .before .before .before .before in omega (arith, job-bounds (s .args .shape) (jobOf (s .args .job .now)) (s .pre) .tasks)
+mul-all c =
+    let s = c .before .before .before .before .before .before in omega (arith, job-bounds (s .args .shape) (jobOf (s .args .job .now)) (s .pre .0) .tasks)
 
 array-write-all : tie.Need-array-write-all Inv-loop μ-loop
 array-write-all c =
-    let s = c .before .before .before .before .before .before in omega (arith, job-bounds (s .args .shape) (jobOf (s .args .job .now)) (s .pre) .tasks)
+    let s = c .before .before .before .before .before .before in omega (arith, job-bounds (s .args .shape) (jobOf (s .args .job .now)) (s .pre .0) .tasks)
 
 loop-less : tie.Need-loop-less Inv-loop μ-loop
 loop-less c = search needs
@@ -72,15 +72,15 @@ loop-again c =
     let J = jobOf (s .args .job .now) in (
       omega arith,
       simp length-set (at .inv .1),
-      weights-turn (s .args .shape) J (s .pre) (at .i - 1) (omega arith) (c .before .before .before .run-time .ensures .0)
+      weights-turn (s .args .shape) J (s .pre .0) (at .i - 1) (omega arith) (c .before .before .before .run-time .ensures .0)
           (c .before .before .run-time2 .ensures .0) (c .heaviest-reader .ensures) (at .inv .1)
-          (weights-next (s .args .shape) J (s .pre) (c .before .before .before .before .loop-test .taken) (at .inv .2)),
+          (weights-next (s .args .shape) J (s .pre .0) (c .before .before .before .before .loop-test .taken) (at .inv .2)),
     )
 
 returns : tie.Need-returns Inv-loop μ-loop
 returns c =
     let s = c .before .before in
-    weights-all (s .args .shape) (jobOf (s .args .job .now)) (s .pre) (omega arith) (c .before .loop .inv .2)
+    weights-all (s .args .shape) (jobOf (s .args .job .now)) (s .pre .0) (omega arith) (c .before .loop .inv .2)
 
 pub weights-spec : {M : Type 1} → statement M
 weights-spec =

@@ -1,25 +1,28 @@
 -- `first_that_fits` meets its contract. The invariant: the whole answer is that of the tasks left, after the trials made.
 use Prim.Native.Nat.{_≤_, _*_, _-_}
 use native.Mathlib.Omega.{arith}
-use Rattle.model.specs.Layout.{jobOf, entriesOf}
-use Rattle.starts.specs.FreeMemory.{asMemory}
-use Rattle.selection.proofs.RoundLaws.{Left, left-all, left-next, left-taken, left-none}
+use Rattle.model.specs.Layout.{jobOf}
+use Rattle.starts.specs.Memories.{asMemory}
+use Rattle.selection.proofs.RoundLaws.{LeftFor, left-start, left-on, left-found, left-end}
 use borrow.Author.Needs.{needs}
 use Rattle.selection.proofs.round.first_that_fits.Statement.{statement}
 use Rattle.selection.proofs.round.first_that_fits.Tie as tie
 
 abbrev Inv-loop : tie.InvT-loop
-Inv-loop memory shape job schedule last order trials₀ i₀ trials i =
-    (i ≤ shape .tasks) × (trials ≤ 2 * i) × Left (asMemory memory) shape (jobOf job) (entriesOf schedule) last order i trials
+Inv-loop memory shape job last order needs blue-ticks blue-free red-ticks red-free n idle trials₀ i₀ trials i =
+    (i ≤ shape .tasks) × (trials ≤ 2 * i)
+    × LeftFor (asMemory memory) shape (jobOf job) last needs blue-ticks blue-free red-ticks red-free n order i trials
 
 abbrev μ-loop : tie.MeasureT-loop
-μ-loop memory shape job schedule last order trials₀ i₀ trials i = shape .tasks - i
+μ-loop memory shape job last order needs blue-ticks blue-free red-ticks red-free n idle trials₀ i₀ trials i = shape .tasks - i
+
+idle-from-requires : tie.Need-idle-from-requires Inv-loop μ-loop
+idle-from-requires c κs = (c .pre .0 .0 .processors, c .pre .0 .1)
 
 loop-holds : tie.Need-loop-holds Inv-loop μ-loop
 loop-holds c =
-    let a = c .args in
-    let m = asMemory (a .memory) in
-    (omega arith, omega arith, left-all m (a .shape) (jobOf (a .job .now)) (entriesOf (a .schedule .now)) (a .last .now) (a .order .now))
+    let a = c .before .args in
+    (omega arith, omega arith, left-start (asMemory (a .memory)) (a .shape) (jobOf (a .job .now)) (a .last .now) _ _ _ _ _ _ (a .order .now))
 
 mul-try-task : tie.Need-mul-try-task Inv-loop μ-loop
 mul-try-task c = search needs
@@ -29,7 +32,8 @@ element-copy-out-try-task c = search needs
 
 try-task-requires : tie.Need-try-task-requires Inv-loop μ-loop
 try-task-requires c κs =
-    let s = c .before .before .before .before in (s .pre .0, (s .pre .1 .0, s .pre .1 .1 (c .before .before .before .loop .i) (c .before .if1 .taken)))
+    let s = c .before .before .before .before .before in
+    (s .pre .0 .0, ((s .pre .1 .0, c .before .before .before .before .idle-from .ensures .1), s .pre .1 .1 (c .before .before .before .loop .i) (c .before .if1 .taken)))
 
 add-trials : tie.Need-add-trials Inv-loop μ-loop
 add-trials c = search needs
@@ -39,13 +43,13 @@ is-chosen-requires c κs = search needs
 
 returns : tie.Need-returns Inv-loop μ-loop
 returns c =
-    let a = c .before .before .before .before .before .before .before .before .args in
-    let m = asMemory (a .memory) in (
-      left-taken m (a .shape) (jobOf (a .job .now)) (entriesOf (a .schedule .now)) (a .last .now) (a .order .now)
-          (c .before .before .before .before .before .before .before .loop .trials) (c .before .before .before .before .before .if1 .taken)
-          (c .before .before .before .before .before .before .before .loop .inv .2) (c .before .before .before .try-task .result)
-          (c .before .before .before .try-task .ensures .0) (c .before .is-chosen .ensures) (c .if2 .taken),
-      (c .before .before .before .try-task .ensures .1 .0, omega arith),
+    let try = c .before .before .before in
+    let loop = try .before .before .before .before in
+    let a = loop .before .before .args in (
+      left-found (asMemory (a .memory)) (a .shape) (jobOf (a .job .now)) (a .last .now) (a .needs .now) (a .blue-ticks .now) (a .blue-free .now)
+          (a .red-ticks .now) (a .red-free .now) (a .n) (loop .before .idle-from .ensures .0) (a .order .now) (loop .loop .trials)
+          (try .before .before .if1 .taken) (loop .loop .inv .2) (try .try-task .result) (try .try-task .ensures .0) (c .before .is-chosen .ensures) (c .if2 .taken),
+      (try .try-task .ensures .1 .0, omega arith),
     )
 
 add-i : tie.Need-add-i Inv-loop μ-loop
@@ -56,22 +60,22 @@ loop-less c = search needs
 
 loop-again : tie.Need-loop-again Inv-loop μ-loop
 loop-again c =
-    let a = c .before .before .before .before .before .before .before .before .args in
-    let m = asMemory (a .memory) in (
+    let try = c .before .before .before in
+    let loop = try .before .before .before .before in
+    let a = loop .before .before .args in (
       omega arith,
       omega arith,
-      left-next m (a .shape) (jobOf (a .job .now)) (entriesOf (a .schedule .now)) (a .last .now) (a .order .now)
-          (c .before .before .before .before .before .before .before .loop .trials) (c .before .before .before .before .before .if1 .taken)
-          (c .before .before .before .before .before .before .before .loop .inv .2) (c .before .before .before .try-task .result)
-          (c .before .before .before .try-task .ensures .0) (c .before .is-chosen .ensures) (c .if2 .left),
+      left-on (asMemory (a .memory)) (a .shape) (jobOf (a .job .now)) (a .last .now) (a .needs .now) (a .blue-ticks .now) (a .blue-free .now)
+          (a .red-ticks .now) (a .red-free .now) (a .n) (loop .before .idle-from .ensures .0) (a .order .now) (loop .loop .trials)
+          (try .before .before .if1 .taken) (loop .loop .inv .2) (try .try-task .result) (try .try-task .ensures .0) (c .before .is-chosen .ensures) (c .if2 .left),
     )
 
 returns-2 : tie.Need-returns-2 Inv-loop μ-loop
 returns-2 c =
-    let a = c .before .before .before .args in
-    let m = asMemory (a .memory) in (
-      left-none m (a .shape) (jobOf (a .job .now)) (entriesOf (a .schedule .now)) (a .last .now) (a .order .now) {i = c .before .before .loop .i}
-          (c .before .before .loop .inv .2) (omega arith),
+    let loop = c .before .before in
+    let a = loop .before .before .args in (
+      left-end (asMemory (a .memory)) (a .shape) (jobOf (a .job .now)) (a .last .now) (a .needs .now) (a .blue-ticks .now) (a .blue-free .now)
+          (a .red-ticks .now) (a .red-free .now) (a .n) (a .order .now) {i = loop .loop .i} (loop .loop .inv .2) (omega arith),
       (tt, omega arith),
     )
 
@@ -81,6 +85,7 @@ first-that-fits-spec =
     (tie.spec
     Inv-loop
     μ-loop
+    idle-from-requires
     loop-holds
     mul-try-task
     element-copy-out-try-task

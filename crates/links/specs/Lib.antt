@@ -1,0 +1,2 @@
+-- The files of each task as chains.
+pub mod Chains
