@@ -1,6 +1,6 @@
 -- One turn of each planner's round, and what it comes to after all tasks.
 use Prim.Native.Nat.{ℕ, suc, _+_, _<_}
-use mathlib.Core.Bool.{Bool, true, false, cond}
+use mathlib.Core.Bool.{Bool, true, false}
 use mathlib.Core.List.{List, [], _∷_}
 use mathlib.Core.Path.{_≡_, refl, sym, ap, _∙_}
 use native.Mathlib.Nat.{add-zero, zero-add, add-assoc}
@@ -18,6 +18,7 @@ use Rattle.model.specs.declared.layout.Shape.{Shape}
 use Rattle.model.specs.Layout.{Job, Entries, instanceFrom, partialFrom}
 use Rattle.model.proofs.LayoutLaws.{task-count}
 use Rattle.staircase.specs.declared.Counts.{Counts}
+use Rattle.needs.proofs.NeedsLaws.{mark-ready}
 use Rattle.starts.specs.Kept.{Kept}
 use Rattle.selection.specs.declared.trial.Choice.{Choice}
 use Rattle.selection.specs.declared.trial.Choice.the-variants.{Nothing}
@@ -96,14 +97,10 @@ module _ (m : Memory) (I : Instance) (Q : Partial) (i : ℕ) where
 
 -- ---- one task, from its mark in the table
 
-marked : (r : Bool) → ltb 0 (cond r 1 0) ≡ r
-marked true = refl
-marked false = refl
-
 module _ {I : Instance} {Q : Partial} {table bt bf rt rf : List ℕ} {n : Counts} (K : Kept I Q table bt bf rt rf n) {i : ℕ} (h : i < taskCount I)
     {x : Bool} (r : x ≡ ltb 0 (getD table i 0)) where
   pub is-ready : ready I (Q .schedule) i ≡ x
-  is-ready = sym (r ∙ ap (ltb 0) (K .needs .isReady i h) ∙ marked (ready I (Q .schedule) i))
+  is-ready = sym (mark-ready (K .needs) h r)
 
   pub one-tried : (m : Memory) → x ≡ true → (a : Choice) → asChoice a ≡ bothColours m I Q i → record { choice = asChoice a; trials = 2 } ≡ firstThatFits m I Q (i ∷ [])
   one-tried m t a e = rw (one-ready m I Q i (is-ready ∙ t), e)

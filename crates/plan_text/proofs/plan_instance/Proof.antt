@@ -1,6 +1,7 @@
 -- `plan_instance` meets its contract: a stuck planner's answer, or what a complete schedule's writing answers.
 use mathlib.Core.Path.{refl}
 use Rattle.model.specs.Layout.{jobOf, entriesOf, instanceFrom, scheduleFrom}
+use Rattle.model.proofs.LayoutLaws.{job-bounds}
 use Rattle.planner.specs.Outcomes.{asPlanner}
 use Rattle.plan_text.proofs.AnswerLaws.{made-stuck, made-written, made-claim}
 use borrow.Author.Needs.{needs}
@@ -17,7 +18,16 @@ enum-known-trials : tie.Need-enum-known-trials
 enum-known-trials c = search needs
 
 write-plan-requires : tie.Need-write-plan-requires
-write-plan-requires c κs = ?
+write-plan-requires c κs =
+    let t = c .before .before .before in
+    let r = t .before .before in
+    let s = r .before .before .before in
+    let b = s .args .shape in
+    let J = jobOf (s .args .job .now) in
+    let P = scheduleFrom b (entriesOf (r .run .last .1 .1 .1 .0)) in (
+      job-bounds b J (s .pre),
+      made-claim (asPlanner (s .args .rule)) (instanceFrom b J) (s .args .out .now) P (r .run .result) (r .run .ensures .0) (t .trials .given .1) (r .run .ensures .1),
+    )
 
 returns : tie.Need-returns
 returns c =
@@ -31,7 +41,7 @@ same-length c = search needs
 
 returns-2 : tie.Need-returns-2
 returns-2 c =
-    let t = c .before .before .before .before .before .before .before .before in
+    let t = c .before .before .before .before .before .before in
     let r = t .before .before in
     let s = r .before .before .before in
     let I = instanceFrom (s .args .shape) (jobOf (s .args .job .now)) in

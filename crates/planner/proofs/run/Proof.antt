@@ -25,9 +25,10 @@ returns c =
     let s = board .before .before in
     let a = s .args in
     let e = board .before .memory-of .ensures in
-    let g = board .board-by .ensures in
-    (own-ends (asPlanner (a .rule)) (a .shape) (jobOf (a .job .now)) e g _ (c .start .result) (c .start .ensures .0),
-     own-claims (asPlanner (a .rule)) (a .shape) (jobOf (a .job .now)) e g _ (c .start .result) (c .start .ensures .1))
+    let g = board .board-by .ensures in (
+      own-ends (asPlanner (a .rule)) (a .shape) (jobOf (a .job .now)) e g _ (c .start .result) (c .start .ensures .0),
+      own-claims (asPlanner (a .rule)) (a .shape) (jobOf (a .job .now)) e g _ (c .start .result) (c .start .ensures .1),
+    )
 
 pub run-spec : {M : Type 1} → statement M
 run-spec = tie.close (tie.spec memory-of-requires board-by-requires start-requires returns)
