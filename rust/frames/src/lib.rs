@@ -6,7 +6,7 @@
 //!
 //! What include/frames.h asks of a caller holds of every call here: slices and mutable slices do not overlap, an empty slice is a pointer
 //! with length 0, and the results are arrays of this crate. Calls use no heap in the library and no global data, so they may run on
-//! several threads at once; each needs at most 32 KB of stack, `strip` 48 KB.
+//! several threads at once; each needs at most 32 KB of stack, the planners and `strip` 48 KB.
 //!
 //! ```
 //! use frames::{mark, plan, Planner, Verdict};
