@@ -18,13 +18,13 @@ use model::layout::Shape;
 use sorting::CAPACITY;
 
 // The tick of the first change after which the total is over a limit.
-#[derive(Drop)]
+#[derive(Clone, Copy)]
 pub enum Over {
     At(u64),
     Never,
 }
 
-#[derive(Drop)]
+#[derive(Clone, Copy)]
 pub struct Totals {
     pub greatest: u64,
     pub over: Over,

@@ -1,5 +1,6 @@
 // What a file costs in the four cases of its maker's and its reader's colour, blue-blue, red-red, blue-red and red-blue (Order 2).
 // The file that task 1 makes and task 2 reads has size 3 and move time 5 throughout: F 3, C 5.
+#![tactic(auto)]
 use console::{Planner, print_answer, print_number, print_verdict};
 use libc::STDOUT_FILENO;
 use model::colour::{Colour, move_time_between, newly_held};

@@ -5,7 +5,7 @@ use crate::errors::{report, report_argument};
 
 // What was read: so many bytes at the front of the buffer, or nothing of use, since a call failed. Fewer bytes than the buffer has are
 // the whole input; where they fill the buffer the input may go on.
-#[derive(Drop)]
+#[derive(Clone, Copy)]
 pub enum Input {
     Bytes(usize),
     Failed,

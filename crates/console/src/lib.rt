@@ -1,4 +1,5 @@
 // What the programs have in common: reading texts, printing answers, and saying what failed.
+#![tactic(auto)]
 mod answers;
 mod converter;
 mod errors;

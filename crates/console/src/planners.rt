@@ -8,7 +8,7 @@ ghost use Rattle.console.specs.Planners.{as_planner};
 
 use frames::Answer;
 
-#[derive(Drop)]
+#[derive(Clone, Copy)]
 pub enum Planner {
     MemHeft,
     MemMinMin,

@@ -1,4 +1,5 @@
 // The converter and the stripper (Order 7): sheets converted, timetables of converted sheets stripped, and each refusal.
+#![tactic(auto)]
 mod limits;
 mod papers;
 mod plans;

@@ -7,7 +7,7 @@ use model::layout::Shape;
 use rules::Board;
 
 // On success the number is 0 and the place the bytes written.
-#[derive(Drop)]
+#[derive(Clone, Copy)]
 pub struct Converted {
     pub number: u64,
     pub place: u64,

@@ -1,4 +1,5 @@
 // frameconvert: reads a board sheet from standard input and prints it as one for readers that lack working memory (Order 7).
+#![tactic(auto)]
 use console::{Input, convert, print_text, read_descriptor, report};
 use libc::{STDERR_FILENO, STDIN_FILENO};
 

@@ -1,4 +1,5 @@
 // framemark SHEET PAPER ..: marks the timetable of each file PAPER on the board sheet of the file SHEET.
+#![tactic(auto)]
 use console::{
     Input, print_marks, print_verdict, read_argument, read_file, read_named, report, write_escaped,
 };

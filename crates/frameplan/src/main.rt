@@ -1,10 +1,11 @@
 // frameplan [memheft|memminmin|heft|minmin]: reads a board sheet from standard input and prints its timetable, by MemHEFT or the planner
 // named.
+#![tactic(auto)]
 use console::{Input, Planner, plan, print_answer, read_descriptor, report};
 use libc::{STDERR_FILENO, STDIN_FILENO};
 
 // What the arguments name.
-#[derive(Drop)]
+#[derive(Clone, Copy)]
 enum Named {
     Known(Planner),
     Unknown,

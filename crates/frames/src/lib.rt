@@ -1,4 +1,5 @@
 // The public calls. None has a `requires`: any bytes may be handed in.
+#![tactic(auto)]
 mod converter;
 mod exports;
 mod marker;

@@ -1,5 +1,6 @@
 // framestrip SHEET PAPER: prints what is left, for the board sheet of the file SHEET, of the timetable of the file PAPER, which is one of the
 // sheet that frameconvert prints (Order 7).
+#![tactic(auto)]
 use console::{Input, print_text, read_named, report, strip};
 use libc::STDERR_FILENO;
 

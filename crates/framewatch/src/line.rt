@@ -8,7 +8,7 @@ use libc::STDOUT_FILENO;
 pub const WIDTH: usize = 80;
 
 // The columns used so far, spaces behind them, and room for LF behind the last; and whether all lines before this one were written.
-#[derive(Drop)]
+#[derive(Clone, Copy)]
 pub struct Line {
     pub bytes: [u8; WIDTH + 1],
     pub used: usize,

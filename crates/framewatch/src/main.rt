@@ -1,4 +1,5 @@
 // framewatch SHEET PAPER [STEPS [MADE]]: shows what the timetable of the file PAPER does on the board of the file SHEET, step by step.
+#![tactic(auto)]
 mod line;
 mod memory;
 mod number;

@@ -16,7 +16,7 @@ use rules::Board;
 use text::Fault;
 
 // The instance's shape behind a line, or the line's fault.
-#[derive(Drop)]
+#[derive(Clone, Copy)]
 pub enum Step {
     Next(Shape),
     Refused(Fault),

@@ -39,7 +39,7 @@ const WORK: u64 = 3;
 const FILE: u64 = 4;
 
 // What a line says, or its fault. A task's `work` is 0 where W is left out.
-#[derive(Drop)]
+#[derive(Clone, Copy)]
 pub enum Line {
     Board {
         board: Board,

@@ -15,7 +15,7 @@ use rules::Board;
 use text::Fault;
 
 // An accepted sheet's shape, or the sheet's fault and the number of the line.
-#[derive(Drop)]
+#[derive(Clone, Copy)]
 pub enum InstanceRead {
     Accepted(Shape),
     Refused(Fault, u64),

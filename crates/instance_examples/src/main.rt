@@ -1,4 +1,5 @@
 // Reads board sheets, good and bad, and prints the number and the place of each answer.
+#![tactic(auto)]
 use instance::InstanceRead;
 use libc::STDOUT_FILENO;
 use model::layout;

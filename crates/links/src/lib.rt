@@ -1,4 +1,5 @@
 // The files of each task, as chains made once for an instance: those that it makes, or those that it reads.
+#![tactic(auto)]
 ghost use Rattle.std.specs.Prelude.{◌≡◌, ℕ, ◌<◌, eqb, length};
 ghost use Rattle.rules.specs.Limits.{max_tasks, max_files};
 ghost use Rattle.model.specs.Layout.{instance_of, JobInBounds};
@@ -9,7 +10,7 @@ use model::layout::Shape;
 use rules::Board;
 
 // An end of a file: the task that makes it, or the one that reads it.
-#[derive(Drop)]
+#[derive(Clone, Copy)]
 pub enum End {
     Maker,
     Reader,

@@ -1,4 +1,5 @@
 // Timetables marked: examples e to m of document 01, papers that neither MemHEFT nor MemMinMin would make, each refusal, and peaks by changes.
+#![tactic(auto)]
 mod changes;
 
 use changes::by_changes;

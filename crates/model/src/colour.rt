@@ -4,7 +4,7 @@ ghost use Rattle.rules.specs.Model.{same_colour, move_time_between, newly_held};
 ghost use Rattle.model.specs.Colours.{as_colour, by_colour};
 
 // The two kinds of processor, each with its memory.
-#[derive(Drop)]
+#[derive(Clone, Copy)]
 pub enum Colour {
     Blue,
     Red,

@@ -47,7 +47,7 @@ pub fn moves<'a>(
 }
 
 // What a file costs a task: its actual move time, and what the task's colour must newly hold of it.
-#[derive(Drop)]
+#[derive(Clone, Copy)]
 pub struct Cost {
     pub move_time: u64,
     pub newly_held: u64,

@@ -10,7 +10,7 @@ use super::colour::{Colour, by_colour};
 use rules::Board;
 
 // The counts of an instance, and its board.
-#[derive(Drop)]
+#[derive(Clone, Copy)]
 pub struct Shape {
     pub tasks: usize,
     pub files: usize,

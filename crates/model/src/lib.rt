@@ -1,4 +1,5 @@
 // The instance and the schedule as arrays of numbers; the two colours, and what a file costs between them; what the memories hold; the makespan.
+#![tactic(auto)]
 pub mod choice;
 pub mod claim;
 pub mod colour;

@@ -15,7 +15,7 @@ use super::layout::Shape;
 // What the two runs of a file imply: whether it moves, and its times. `begun` and `made` are its maker's start and finish,
 // `departs` and `arrives` the start and the end of its move, the end by its actual move time; they mean nothing for a file that
 // does not move. Its reader `starts`, and keeps it until `released`.
-#[derive(Drop)]
+#[derive(Clone, Copy)]
 pub struct FileTimes {
     pub moves: bool,
     pub begun: u64,
@@ -27,7 +27,7 @@ pub struct FileTimes {
 }
 
 // When a memory holds a file, or a task's working memory.
-#[derive(Drop)]
+#[derive(Clone, Copy)]
 pub enum Hold {
     Never,
     During(u64, u64),

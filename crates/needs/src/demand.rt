@@ -17,7 +17,7 @@ use rules::Board;
 
 // The sizes of the crossing files; start 2, at which every file that the task reads has arrived; and the greatest move time of
 // the crossing files.
-#[derive(Drop)]
+#[derive(Clone, Copy)]
 pub struct Demand {
     pub incoming: u64,
     pub arrival: u64,

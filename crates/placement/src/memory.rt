@@ -20,7 +20,7 @@ use staircase::{Counts, PAIRS, change};
 
 // What a placing changes: `room` for what the task makes and its working memory, `kept` what it reads and its working memory until
 // its release, `incoming` the files that cross to it.
-#[derive(Drop)]
+#[derive(Clone, Copy)]
 pub struct Sizes {
     pub room: u64,
     pub kept: u64,
@@ -28,7 +28,7 @@ pub struct Sizes {
 }
 
 // Task i on the colour at the start.
-#[derive(Drop)]
+#[derive(Clone, Copy)]
 pub struct Placing {
     pub i: usize,
     pub colour: Colour,

@@ -1,5 +1,6 @@
 // The four planners side by side on the sheets of data/ (Order 4): of each the number, the place and the trials, then its timetable and what
 // the marker says to it on the same sheet.
+#![tactic(auto)]
 use console::{Input, Planner, plan, print_answer, print_numbers, print_plan_mark, read_file};
 use libc::STDOUT_FILENO;
 

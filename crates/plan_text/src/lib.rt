@@ -1,4 +1,5 @@
 // An instance planned, and its timetable written into a lent buffer.
+#![tactic(auto)]
 ghost use Rattle.std.specs.Prelude.{◌≡◌};
 ghost use Rattle.rules.specs.Calls.{plan_text, written, plan_on};
 ghost use Rattle.rules.specs.Promises.{WellFormed};
@@ -14,7 +15,7 @@ use model::layout::Shape;
 use planner::{Outcome, Rule};
 
 // A planner's answer: on success the number is 0 and the place the bytes written.
-#[derive(Drop)]
+#[derive(Clone, Copy)]
 pub struct Answer {
     pub number: u64,
     pub place: u64,

@@ -1,4 +1,5 @@
 // The planners: rounds, each of which places one task, until all are placed or none fits.
+#![tactic(auto)]
 ghost use Rattle.std.specs.Prelude.{◌≡◌, replicate};
 ghost use Rattle.rules.specs.Limits.{memory_limits};
 ghost use Rattle.rules.specs.Promises.{WellFormed};
@@ -19,14 +20,14 @@ pub mod claim;
 pub mod rounds;
 
 // HEFT and MINMIN: memory aware, or plain.
-#[derive(Drop)]
+#[derive(Clone, Copy)]
 pub enum Rule {
     Heft(Memory),
     MinMin(Memory),
 }
 
 // All tasks placed, with what the schedule has to claim, or stuck after so many; and the trials made.
-#[derive(Drop)]
+#[derive(Clone, Copy)]
 pub enum Outcome {
     Complete { trials: u64, claim: Claim },
     Stuck { placed: u64, trials: u64 },

@@ -1,4 +1,5 @@
 // Both memory-aware planners on the sheets of data/, those with relays last, and a buffer one byte too short.
+#![tactic(auto)]
 use console::{Planner, plan, print_answer, print_numbers};
 use libc::STDOUT_FILENO;
 

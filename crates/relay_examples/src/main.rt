@@ -1,4 +1,5 @@
 // Timetables with relays marked, tasks of run time 0 on the colour that they run on: where one may stand, and what it holds (Order 1).
+#![tactic(auto)]
 use console::print_verdict;
 use libc::STDOUT_FILENO;
 

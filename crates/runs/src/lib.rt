@@ -1,6 +1,7 @@
 // The runs of a schedule as a list of records: a lent slice of them is walked by one thin function above a covered core.
 // Proved by hand, since each has a reference to a slice of structs: `first_overlap`, the walk, and `lowest_overlap`, which lends
 // it the first runs of an array. All else is covered.
+#![tactic(auto)]
 ghost use Rattle.std.specs.Prelude.{◌≡◌, ◌<◌, ◌≤◌, ltb, length};
 ghost use Rattle.rules.specs.Limits.{max_tasks};
 ghost use Rattle.runs.specs.First.{FirstOverlap};
@@ -9,7 +10,7 @@ ghost use Rattle.runs.specs.Scan.{overlapping, lowest_with, empty_scan, scan_run
 use rules::Board;
 
 // A run of a task: on a processor, from its start until its finish.
-#[derive(Drop)]
+#[derive(Clone, Copy)]
 pub struct Run {
     pub processor: u64,
     pub start: u64,
@@ -17,7 +18,7 @@ pub struct Run {
 }
 
 // The runs passed so far, and the lowest index among them whose run overlaps another's, or n where none does.
-#[derive(Drop)]
+#[derive(Clone, Copy)]
 struct Scan {
     runs: [Run; Board::MAX_TASKS],
     n: usize,

@@ -34,7 +34,7 @@ const MOVE: u64 = 2;
 
 const CLAIM: u64 = 3;
 
-#[derive(Drop)]
+#[derive(Clone, Copy)]
 pub enum Line {
     Run { i: u64, processor: u64, start: u64 },
     Move { i: u64, j: u64, start: u64 },

@@ -16,28 +16,28 @@ use rules::Board;
 use text::Fault;
 
 // A timetable with its claim, or its fault and the number of the line.
-#[derive(Drop)]
+#[derive(Clone, Copy)]
 pub enum ScheduleRead {
     Read(Claim),
     Refused(Fault, u64),
 }
 
 // How far the text is read: where the next line starts and its number, or a fault and its line's number.
-#[derive(Drop)]
+#[derive(Clone, Copy)]
 enum Progress {
     At(usize, u64),
     Refused(Fault, u64),
 }
 
 // A move's start and where the next line starts, or the fault of a line that is not this move's.
-#[derive(Drop)]
+#[derive(Clone, Copy)]
 enum MoveRead {
     Start(u64, usize),
     Refused(Fault),
 }
 
 // A line, and where the next one starts.
-#[derive(Drop)]
+#[derive(Clone, Copy)]
 struct Cut {
     said: Line,
     next: usize,

@@ -20,7 +20,7 @@ use starts::memory::Memory;
 use starts::start::processor_start;
 
 // A round's choice and the trials that it took, a task on a colour counting one.
-#[derive(Drop)]
+#[derive(Clone, Copy)]
 pub struct Round {
     pub choice: Choice,
     pub trials: u64,

@@ -18,14 +18,14 @@ use starts::memory::Memory;
 use starts::start::earliest_start;
 
 // Start 1 of each colour.
-#[derive(Drop)]
+#[derive(Clone, Copy)]
 pub struct Idle {
     pub blue: u64,
     pub red: u64,
 }
 
 // What is to be placed: a task on a colour at a start, or nothing that fits.
-#[derive(Drop)]
+#[derive(Clone, Copy)]
 pub enum Choice {
     Nothing,
     Choose {

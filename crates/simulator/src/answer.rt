@@ -6,7 +6,7 @@ ghost use Rattle.simulator.specs.Answers.{as_progress, as_simulation};
 use rules::Board;
 
 // How a call ends: a text refused, by number and place; steps left; stopped for a fault, by number and tick; or ended, with the span.
-#[derive(Drop)]
+#[derive(Clone, Copy)]
 pub enum Progress {
     Refused { number: u64, place: u64 },
     StepsLeft,
@@ -66,7 +66,7 @@ impl Progress {
 
 // How the call ends, with the steps made in all and the state that it leaves: the time; for each processor the task that it runs,
 // or 0; for each file where it is held: 0 nowhere, 1 in blue, 2 in red, 3 in both.
-#[derive(Drop)]
+#[derive(Clone, Copy)]
 pub struct Simulation {
     pub progress: Progress,
     pub made: u64,

@@ -15,7 +15,7 @@ use model::layout::Shape;
 use model::span::makespan;
 
 // What the next step does: it goes to a turn, or it is not made, and that is how the walk ends.
-#[derive(Drop)]
+#[derive(Clone, Copy)]
 pub enum Step {
     Onto(u64),
     Barred(Progress),

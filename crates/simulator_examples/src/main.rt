@@ -1,4 +1,5 @@
 // The simulator called on the course example of document 01 and on papers near it (Order 3): each call, and its answer in plain forms.
+#![tactic(auto)]
 mod course;
 mod ends;
 mod faults;

@@ -7,7 +7,7 @@ use libc::STDOUT_FILENO;
 use model::layout;
 
 // The number of processors of a board, and of files of its sheet.
-#[derive(Drop)]
+#[derive(Clone, Copy)]
 pub struct Counts {
     pub processors: u64,
     pub files: usize,

@@ -1,4 +1,5 @@
 // A memory's free amount as a staircase: ascending ticks, and what is free from each on. Document 02, Order 9.
+#![tactic(auto)]
 ghost use Rattle.std.specs.Prelude.{◌≡◌, cond, List, ℕ, ◌+◌, ◌<◌, ◌≤◌, leb, get_or};
 ghost use Rattle.rules.specs.Count.{settled_from};
 ghost use Rattle.rules.specs.Limits.{max_pairs};
@@ -15,21 +16,21 @@ use slots::{insert_amount, insert_tick, remove_amount, remove_tick, shift};
 pub const PAIRS: usize = 1 + 2 * (Board::MAX_FILES + Board::MAX_TASKS);
 
 // The steps of both memories' staircases.
-#[derive(Drop)]
+#[derive(Clone, Copy)]
 pub struct Counts {
     pub blue: usize,
     pub red: usize,
 }
 
 // From when on an amount is free.
-#[derive(Drop)]
+#[derive(Clone, Copy)]
 pub enum Free {
     Nowhere,
     From(u64),
 }
 
 // Starts 3 and 4.
-#[derive(Drop)]
+#[derive(Clone, Copy)]
 pub struct Starts {
     pub third: Free,
     pub fourth: Free,

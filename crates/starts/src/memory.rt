@@ -17,7 +17,7 @@ use needs::demand::Demand;
 use staircase::{Free, PAIRS, both_from};
 
 // Memory aware, or plain: with starts 3 and 4 left out.
-#[derive(Drop)]
+#[derive(Clone, Copy)]
 pub enum Memory {
     Aware,
     Plain,

@@ -3,7 +3,7 @@ ghost use Rattle.std.specs.Prelude.{◌≡◌};
 ghost use Rattle.rules.specs.Text.{in_sheet, in_timetable, fault_number};
 ghost use Rattle.text.specs.Faults.{as_fault};
 
-#[derive(Drop)]
+#[derive(Clone, Copy)]
 pub enum Fault {
     // over `MAX_TEXT` bytes
     TooLong,

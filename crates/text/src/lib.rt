@@ -1,4 +1,5 @@
 // The text layer: lines, numerals and forms, read from lent bytes and written to lent bytes.
+#![tactic(auto)]
 mod faults;
 mod forms;
 mod lines;

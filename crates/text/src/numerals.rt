@@ -24,7 +24,7 @@ fn units(d: u8) -> u64
 }
 
 // A number at the front of a text, and how many digits spell it; 0 digits where none is there.
-#[derive(Drop)]
+#[derive(Clone, Copy)]
 pub struct Numeral {
     pub value: u64,
     pub size: usize,

@@ -18,7 +18,7 @@ use model::layout::Shape;
 use model::span::makespan;
 
 // The marker's answer.
-#[derive(Drop)]
+#[derive(Clone, Copy)]
 pub struct Verdict {
     pub number: u64,
     pub place: u64,

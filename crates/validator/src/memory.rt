@@ -11,7 +11,7 @@ use model::colour::Colour;
 use model::layout;
 use model::layout::Shape;
 
-#[derive(Drop)]
+#[derive(Clone, Copy)]
 pub struct Memories {
     pub over: Over,
     pub blue_peak: u64,

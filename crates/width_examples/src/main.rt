@@ -1,5 +1,6 @@
 // Numbers next to the edges that Order 5 moved (the digits of a number; B, R and C; s, t and the claim), and numbers of 10 to 13 digits
 // where a range is as it was. Each line says what is shown and how the timetable is marked; under a refusal of a line stands that line.
+#![tactic(auto)]
 use console::print_marks;
 use libc::STDOUT_FILENO;
 
