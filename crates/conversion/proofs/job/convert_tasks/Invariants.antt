@@ -1,0 +1,14 @@
+-- `convert_tasks` meets its contract. The invariant: the tasks passed are stored, with a file for each that has W.
+use Prim.Native.Nat.{◌+◌, ◌≤◌, ◌-◌}
+use mathlib.Core.Path.{◌≡◌}
+use Rattle.model.specs.Layout.{job_of, instance_from}
+use Rattle.conversion.specs.Stored.{Stored}
+use Rattle.conversion.proofs.CountLaws.{count_to}
+use Rattle.conversion.proofs.job.convert_tasks.Given as goal
+
+abbrev pub invariant-loop-i : goal.invariant-loop-i
+invariant-loop-i l =
+    (l.i ≤ l.shape.tasks) × (l.k ≡ count_to l.shape (job_of l.job) l.i) × Stored (instance_from l.shape (job_of l.job)) l.target (l.added + l.i) l.k
+
+abbrev pub decreases-loop-i : goal.decreases-loop-i
+decreases-loop-i l = l.shape.tasks - l.i

@@ -1,0 +1,10 @@
+-- `instance::sheet::rest_of` meets its contract: what the lines passed left to read.
+use lib.ListN.{length}
+use Rattle.instance.proofs.ReadLaws.{Reading}
+use Rattle.instance.proofs.sheet.rest_of.Given as goal
+
+abbrev pub invariant-loop-rest : goal.invariant-loop-rest
+invariant-loop-rest l = Reading l.initial.shape l.sheet l.initial.job l.shape l.job l.rest l.k
+
+abbrev pub decreases-loop-rest : goal.decreases-loop-rest
+decreases-loop-rest l = length l.rest

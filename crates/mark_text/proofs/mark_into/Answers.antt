@@ -1,0 +1,36 @@
+-- `mark_into` meets its contract: what is read is judged, what is not is refused.
+use Rattle.model.specs.Layout.{job_of, entries_of, instance_from, schedule_from}
+use Rattle.model.proofs.LayoutLaws.{job-bounds}
+use Rattle.model.proofs.SpelledLaws.{spelled-placed, spelled-bounds}
+use Rattle.schedule.proofs.ReadLaws.{read-spellable, was_read}
+use Rattle.mark_text.proofs.PaperLaws.{paper-judged, paper-refused}
+use Rattle.mark_text.proofs.mark_into.Goals as goal
+
+pub read-requires : goal.read-requires
+read-requires c = job-bounds c.args.shape (job_of c.args.job.now) c.requires
+
+pub judge-requires : goal.judge-requires
+judge-requires c =
+    let b = c.args.shape in
+    let J = job_of c.args.job.now in
+    let L = entries_of c.read.new.1.1.1.0 in
+    let r = was_read (instance_from b J) c.args.paper.now (schedule_from b L) c.read.result
+    c.read.ensures c.in-Read.is in
+    let p = read-spellable b J L _ c.args.paper.now r in record {
+    well_formed = c.requires;
+    in_bounds = record { job = job-bounds b J c.requires; schedule = spelled-bounds b J L _ p };
+    placed = spelled-placed b J L _ p
+  }
+
+pub returns-in-Refused : goal.returns-in-Refused
+returns-in-Refused c =
+    let I = instance_from c.args.shape (job_of c.args.job.now) in
+    paper-refused I c.args.paper.now _ c.read.result
+    c.read.ensures c.in-Refused.is c.timetable_number.ensures
+    c.refused.ensures
+
+pub returns-in-Read : goal.returns-in-Read
+returns-in-Read c =
+    let I = instance_from c.args.shape (job_of c.args.job.now) in
+    paper-judged I c.args.paper.now _ c.read.result c.read.ensures
+    c.in-Read.is c.judge.ensures

@@ -1,0 +1,16 @@
+-- `change_if` meets its contract.
+use Rattle.placement.proofs.MemoryLaws.{one-requires, one-made, none_made, change-some, change-none}
+use Rattle.placement.proofs.memory.change_if.Goals as goal
+
+pub change-requires : goal.change-requires
+change-requires c =
+    one-requires (change-some c.args.tick c.args.rises c.args.amount c.if-amount-gt0.true) c.requires
+
+pub returns-then-amount-gt0 : goal.returns-then-amount-gt0
+returns-then-amount-gt0 c =
+    let made = c.change.ensures in
+    one-made (change-some c.args.tick c.args.rises c.args.amount c.if-amount-gt0.true) _ _ _ made.result_after made.sized made.upper_bound
+
+pub returns : goal.returns
+returns c =
+    none_made (change-none c.args.tick c.args.rises c.args.amount c.if-amount-gt0.false) c.requires

@@ -1,0 +1,109 @@
+use Prim.Native.Nat.{ℕ, ◌-◌}
+use mathlib.Core.Path.{refl, sym, ap, ◌∙◌}
+use native.Mathlib.Omega.{arith}
+use lib.ListN.{length-replicate}
+use Rattle.model.specs.declared.colour.Colour.TheVariants.{Blue, Red}
+use Rattle.model.specs.Layout.{job_of, schedule_length, last_length}
+use Rattle.model.proofs.LayoutLaws.{job-bounds, limit-of}
+use Rattle.rules.specs.Model as Rules
+use Rattle.staircase.specs.Steps.{start_steps}
+use Rattle.staircase.proofs.StairsLaws.{holds-start}
+use Rattle.placement.proofs.PlaceLaws.{empty-from}
+use Rattle.selection.proofs.ChoiceLaws.{chosen-bounds}
+use Rattle.planner.specs.Outcomes.{as_planner}
+use Rattle.planner.proofs.RunLaws.{planning-start, planning-last, planning-numbers, planning-stuck, planning-trial, planning-next}
+use Rattle.planner.proofs.RunLaws.{planning-done, planning-complete, planning-free}
+use Rattle.planner.proofs.rounds.rounds.Goals as goal
+
+pub loop-placed-init : goal.loop-placed-init
+loop-placed-init c =
+    let a = c.args in
+    let J = job_of a.job.now in
+    let W = c.requires.well_formed.0 in
+    let x = c.start-blue.ensures in
+    let y = c.start-red.ensures in (
+      rw c.requires.schedule_value (length-replicate {A = ℕ} schedule_length 0),
+      refl,
+      planning-start (as_planner a.rule) a.shape J W c.requires.well_formed.1 _ _ _
+          (rw c.requires.schedule_value (empty-from a.shape J schedule_length last_length))
+          c.requires.needs.0 c.requires.needs.1
+          (holds-start W Rules.blue _ _ _ (x.result_after ∙ ap start_steps (sym (limit-of a.shape J Blue))) x.sized)
+          (holds-start W Rules.red _ _ _ (y.result_after ∙ ap start_steps (sym (limit-of a.shape J Red))) y.sized),
+    )
+
+pub round-found-requires : goal.round-found-requires
+round-found-requires c =
+    let a = c.args in
+    let p = c.loop-placed.invariant.2 in record {
+    job_in_bounds = (job-bounds a.shape (job_of a.job.now) c.requires.well_formed.0, planning-last (as_planner a.rule) a.shape (job_of a.job.now) c.requires.well_formed.0 c.requires.well_formed.1 p);
+    kept_bounds = planning-numbers (as_planner a.rule) a.shape (job_of a.job.now) c.requires.well_formed.0 c.requires.well_formed.1 p;
+    order_bounds = c.requires.order_bounds;
+    p_value = c.requires.p_value
+  }
+
+pub overflow_add-trials : goal.overflow_add-trials
+overflow_add-trials c =
+    omega (
+      arith,
+      c.loop-placed.invariant.2.counted,
+      c.round-found.ensures.choice_bounds.1,
+      (job-bounds c.args.shape (job_of c.args.job.now) c.requires.well_formed.0).tasks,
+      c.loop-placed.invariant.2.most,
+    )
+
+pub returns-in_default : goal.returns-in_default
+returns-in_default c =
+    let a = c.args in
+    let p = c.loop-placed.invariant.2 in record {
+    schedule_after = planning-stuck (as_planner a.rule) a.shape (job_of a.job.now) c.requires.well_formed.0 c.requires.well_formed.1 p c.loop-placed-test.true
+          c.round-found.result (c.round-found.ensures.result_value _ p.kept) c.in_default.is;
+    claims = tt
+  }
+
+pub place_task-n-requires : goal.place_task-n-requires
+place_task-n-requires c =
+    let a = c.args in
+    let p = c.loop-placed.invariant.2 in
+    let x = chosen-bounds a.shape c.round-found.result.choice c.in-Choose.is c.round-found.ensures.choice_bounds.0 in record {
+    chained = c.requires.chained;
+    chained_2 = c.requires.chained_2;
+    kept = p.kept;
+    needs_bounds = (p.numbers, x.1);
+    trial = planning-trial (as_planner a.rule) a.shape (job_of a.job.now) c.requires.well_formed.0 c.requires.well_formed.1 p c.loop-placed-test.true
+                  c.round-found.result (c.round-found.ensures.result_value _ p.kept) c.in-Choose.is;
+    schedule_len = (c.loop-placed.invariant.0, c.loop-placed.invariant.1)
+  }
+
+pub overflow_add-placed : goal.overflow_add-placed
+overflow_add-placed c =
+    omega (arith, c.loop-placed-test.true, (job-bounds c.args.shape (job_of c.args.job.now) c.requires.well_formed.0).tasks)
+
+pub loop-placed-smaller : goal.loop-placed-smaller
+loop-placed-smaller c = omega (arith, c.loop-placed-test.true)
+
+pub loop-placed-preserved : goal.loop-placed-preserved
+loop-placed-preserved c =
+    let a = c.args in
+    let p = c.loop-placed.invariant.2 in
+    let e = c.place_task-n.ensures in (
+      e.schedule_len_2.0,
+      e.schedule_len_2.1,
+      planning-next (as_planner a.rule) a.shape (job_of a.job.now) c.requires.well_formed.0 c.requires.well_formed.1 p c.loop-placed-test.true
+          c.round-found.result (c.round-found.ensures.result_value _ p.kept) c.in-Choose.is e.last_after e.kept_2 e.needs_bounds_2 c.round-found.ensures.choice_bounds.1,
+    )
+
+pub claim_from-claim-requires : goal.claim_from-claim-requires
+claim_from-claim-requires c =
+    let a = c.args in record {
+    processors = (job-bounds a.shape (job_of a.job.now) c.requires.well_formed.0).processors;
+    free_within = planning-free (as_planner a.rule) a.shape (job_of a.job.now) c.requires.well_formed.0 c.requires.well_formed.1 c.loop-placed.invariant.2
+  }
+
+pub returns : goal.returns
+returns c =
+    let a = c.args in
+    let p = c.loop-placed.invariant.2 in record {
+    schedule_after = planning-done (as_planner a.rule) a.shape (job_of a.job.now) c.requires.well_formed.0 c.requires.well_formed.1 p c.loop-placed-test.false;
+    claims = c.claim_from-claim.ensures (job_of a.job.now) _ _ _ _ p.kept
+          (planning-complete (as_planner a.rule) a.shape (job_of a.job.now) c.requires.well_formed.0 c.requires.well_formed.1 p c.loop-placed-test.false)
+  }

@@ -1,0 +1,13 @@
+-- `schedule::lines::run_of` meets its contract: the three numbers are in their ranges, or one is not.
+use Rattle.schedule.proofs.LineLaws.{in-ranges, out-of-ranges, processor-count}
+use Rattle.schedule.proofs.lines.run_of.Goals as goal
+
+pub returns-then-all_three : goal.returns-then-all_three
+returns-then-all_three c =
+    λ J. rw (processor-count c.args.shape J)
+    (in-ranges _ c.All-three.ensures c.between.ensures c.between-2.ensures c.between-3.ensures c.if-all_three.true)
+
+pub returns : goal.returns
+returns c =
+    λ J. rw (processor-count c.args.shape J)
+    (out-of-ranges _ c.All-three.ensures c.between.ensures c.between-2.ensures c.between-3.ensures c.if-all_three.false)

@@ -1,0 +1,16 @@
+use Prim.Native.Nat.{◌-◌}
+use native.Mathlib.Omega.{arith}
+use Rattle.model.specs.Layout.{job_of, entries_of}
+use Rattle.simulator.proofs.SoonestLaws.{soonest-begins, soonest-next}
+use Rattle.simulator.proofs.TurnLaws.{tasks-total}
+use borrow.Author.Rules.{rules}
+use Rattle.simulator.proofs.turns.next_of_tasks.Goals as goal
+
+pub loop-i-init : goal.loop-i-init
+loop-i-init c = (omega arith, soonest-begins _ _ (search rules))
+
+pub loop-i-preserved : goal.loop-i-preserved
+loop-i-preserved c = (omega arith, soonest-next _ _ c.loop-i.i c.lesser-first.ensures c.loop-i.invariant.1 c.next_of_task.ensures)
+
+pub returns : goal.returns
+returns c = tasks-total c.args.shape (job_of c.args.job.now) (entries_of c.args.schedule.now) {n = c.loop-i.i} (omega arith) c.loop-i.invariant.1

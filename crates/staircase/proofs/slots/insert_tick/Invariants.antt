@@ -1,0 +1,11 @@
+-- `insert_tick` meets its contract.
+use Prim.Native.Nat.{◌≤◌}
+use Rattle.staircase.specs.Slots.{same}
+use Rattle.staircase.proofs.SlotLaws.{Inserting}
+use Rattle.staircase.proofs.slots.insert_tick.Given as goal
+
+abbrev pub invariant-loop-k : goal.invariant-loop-k
+invariant-loop-k l = (l.p ≤ l.k) × (l.k ≤ l.n) × Inserting same l.n l.initial.a l.k l.a
+
+abbrev pub decreases-loop-k : goal.decreases-loop-k
+decreases-loop-k l = l.k

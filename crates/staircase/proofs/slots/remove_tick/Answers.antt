@@ -1,0 +1,17 @@
+use native.Mathlib.Omega.{arith}
+use Prim.Native.Nat.{◌-◌}
+use mathlib.Core.Path.{◌≡◌, refl}
+use Rattle.staircase.proofs.SlotLaws.{removing-none, removing-next}
+use Rattle.staircase.proofs.slots.remove_tick.Goals as goal
+
+pub loop-k-init : goal.loop-k-init
+loop-k-init c = (omega arith, omega arith, removing-none _ _ _)
+
+pub loop-k-preserved : goal.loop-k-preserved
+loop-k-preserved c =
+    (omega arith, omega arith, removing-next _ _ _ c.loop-k.invariant.2 c.loop-k.invariant.0 (omega (arith, c.requires.sized)) refl)
+
+pub returns : goal.returns
+returns c =
+    let e : c.loop-k.k ≡ c.args.n = omega (arith, c.loop-k.invariant.1, c.loop-k-test) in
+    rw e at c.loop-k.invariant.2.done

@@ -1,0 +1,32 @@
+-- `memory_start` meets its contract: the two arms are the two cases of the rule.
+use Prim.Native.Nat.{◌+◌}
+use mathlib.Core.Path.{refl, ◌∙◌}
+use native.Mathlib.Omega.{arith}
+use Rattle.model.specs.Layout.{last_tick}
+use Rattle.staircase.proofs.StairsLaws.{holds_read}
+use Rattle.starts.proofs.EarliestStartLaws.{memory-aware, memory-plain}
+use Rattle.starts.proofs.memory.memory_start.Goals as goal
+
+pub both_from-found-requires : goal.both_from-found-requires
+both_from-found-requires c = (c.requires.ticks_within.pairs, omega arith)
+
+pub latest-requires : goal.latest-requires
+latest-requires c =
+    let t = c.both_from-found.ensures.by_index last_tick c.requires.ticks_within.last in
+    (t.0, t.1, c.requires.demand_bounds.0.longest)
+
+pub returns-in-Aware : goal.returns-in-Aware
+returns-in-Aware c =
+    let a = c.args in record {
+    result_value = (λ I Q i x W p h d r. memory-aware I Q.schedule x a.memory i d c.in-Aware.is
+          c.both_from-found.result.third c.both_from-found.result.fourth c.latest.result r refl
+          (c.both_from-found.ensures.third_value ∙ holds_read W p h (a.demand.incoming + a.room)) (c.both_from-found.ensures.fourth_value ∙ holds_read W p h a.demand.incoming) c.latest.ensures.result_value);
+    result_bound = c.latest.ensures.result_bound
+  }
+
+pub returns-in-Plain : goal.returns-in-Plain
+returns-in-Plain c =
+    let a = c.args in record {
+    result_value = (λ I Q i x W p h d r. memory-plain I Q.schedule x a.memory i d c.in-Plain.is);
+    result_bound = omega arith
+  }
