@@ -3,13 +3,13 @@ use Prim.Native.Nat.{ℕ, zero, suc, ◌+◌}
 use mathlib.Core.Bool.{true, false, cond, ◌&&◌}
 use mathlib.Core.List.{List, [], ◌∷◌, Memᴰ}
 use mathlib.Core.Option.{Option, none, some}
-use mathlib.Core.Path.{◌≡◌, refl, sym, ap, ◌∙◌}
+use mathlib.Core.Path.{◌≡◌, refl, sym, ap, subst, ◌∙◌}
 use native.Mathlib.Omega.{arith}
 use lib.Dec.{leb, ltb, eqb}
 use borrow.Author.Tests.{leb-true, ltb-true, eqb-true, le-leb, lt-ltb, eq-eqb}
 use Rattle.rules.specs.Count.{sum_below, sum_over}
 use Rattle.rules.specs.Model.{blue, red, Colour, Instance, task_count}
-use Rattle.rules.specs.Scheduling.{Memory, Planner, heft, min_min, Partial, ready, earliest_start, finish_on, weight, Choice, nothing, choose, earlier}
+use Rattle.rules.specs.Scheduling.{Memory, Planner, heft, min_min, Partial, ready, earliest_start, finish_on, weight, Choice, nothing, choose, earlier, Round}
 use Rattle.rules.specs.Scheduling.{tried, both_colours, by_weight, or_rest, first_that_fits, earliest_below, round_of}
 use Rattle.rules.specs.RoundTrials.{tried_by, TrialLaw}
 use Rattle.rules.proofs.Tests.{split, by_order, is_false, and-true, and_no, or_yes}
@@ -99,12 +99,15 @@ module _ (m : Memory) (I : Instance) (Q : Partial) where
   counts-none : (x : Choice) (k : ℕ) → tried_by (heft m) I x k ≡ false → counted (heft m) x k ≡ 0
   counts-none x k e = rw (e, and_no (ready I Q.schedule k))
 
+  abbrev Told : List ℕ → Round → Type 0
+  Told is x = x.trials ≡ sum_over (counted (heft m) x.choice) is
+
   first_counted : (is : List ℕ) → Sorted I is → Once is → (first_that_fits m I Q is).trials ≡ sum_over (counted (heft m) (first_that_fits m I Q is).choice) is
   unfolding sum_over
   first_counted [] s o = rw first-none
   first_counted (i ∷ is) s o = split (ready I Q.schedule i)
-      (λ r. rw (first-tries i is r) (on r (both_colours m I Q i) refl (first_counted is s.1 o.1)))
-      (λ r. rw (first-skips i is r, r) (omega (arith, first_counted is s.1 o.1)))
+      (λ r. subst (Told (i ∷ is)) (sym (first-tries i is r)) (on r (both_colours m I Q i) refl (first_counted is s.1 o.1)))
+      (λ r. subst (Told (i ∷ is)) (sym (first-skips i is r)) (rw r (omega (arith, first_counted is s.1 o.1))))
     where
       on : ready I Q.schedule i ≡ true → (x : Choice) → both_colours m I Q i ≡ x
           → (first_that_fits m I Q is).trials ≡ sum_over (counted (heft m) (first_that_fits m I Q is).choice) is

@@ -121,7 +121,10 @@ module _ (I : Instance) where
         ≡ on_lines (run_of (suc (length runs))) (λ r. read_runs I left (record { runs = runs ++ (r ∷ []); moves = [] })) k ls
     unfolding read_runs_by
     run-steps k [] = refl
-    run-steps k (l ∷ ls) = let z : task_count I - suc left ≡ length runs = omega arith in rw (z, read_runs_by)
+    run-steps k (l ∷ ls) =
+        let z : task_count I - suc left ≡ length runs = omega arith in
+        subst (λ n. read_runs I (suc left) (record { runs = runs; moves = [] }) k (l ∷ ls)
+        ≡ on_lines (run_of (suc n)) (λ r. read_runs I left (record { runs = runs ++ (r ∷ []); moves = [] })) k (l ∷ ls)) z refl
 
     run-turn : Turn runs 0 (read_runs I (suc left) (record { runs = runs; moves = [] }))
     run-turn = record {
@@ -155,7 +158,10 @@ module _ (I : Instance) where
           ≡ on_lines (move_for (length moves)) (λ t. read_moves I left (with_moves (moves ++ (t ∷ [])))) k ls
       unfolding read_moves_by
       move-steps m k [] = rw (at-file, m, read_moves_by)
-      move-steps m k (l ∷ ls) = rw (at-file, m, at-file, read_moves_by)
+      move-steps m k (l ∷ ls) =
+          let m' : moved I (with_moves []) (file_count I - suc left) ≡ true = rw at-file m in
+          subst (λ n. read_moves I (suc left) (with_moves moves) k (l ∷ ls)
+          ≡ on_lines (move_for n) (λ t. read_moves I left (with_moves (moves ++ (t ∷ [])))) k (l ∷ ls)) at-file (rw (m', read_moves_by))
 
       move-passes : moved I (with_moves []) (length moves) ≡ false → (k : ℕ) (ls : List Line)
           → read_moves I (suc left) (with_moves moves) k ls ≡ read_moves I left (with_moves (moves ++ (0 ∷ []))) k ls
@@ -322,6 +328,7 @@ module _ (I : Instance) where
   unfolding read_end_by
   bad-end P c k _ _ w (unread d) = rw d (here-too w k)
   bad-end P c k _ _ _ (another d x h e q) = rw e (here-too undue k)
+  bad-end P c k _ _ w (later {l = l} {ls = ls} {n = n} d _ next _ _ h _) = elim h [ ]
 
   bad-none : {runs : List Run} {files : ℕ} (p : Place (before runs files)) (k n : ℕ) (w : Fault) → FirstBad I (before runs files) [] n w
       → read_at p k [] ≡ refused w (k + n)

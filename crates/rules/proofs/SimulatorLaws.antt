@@ -76,9 +76,9 @@ module _ (sheet timetable : List ℕ) where
 
 -- ---- one call after another
 
-goes_on : (I : Instance) (P : Schedule) (made steps more : ℕ) → step_count I P < max_steps → 1 ≤ more
+goes_on-still : (I : Instance) (P : Schedule) (made steps more : ℕ) → step_count I P < max_steps → 1 ≤ more
     → watch I P (min (made + min steps max_steps) (step_count I P) + min more max_steps) ≡ watch I P (made + min (steps + more) max_steps)
-goes_on I P made steps more few one =
+goes_on-still I P made steps more few one =
     let n = step_count I P in
     let w = made + min steps max_steps in
     elim (dec_le w n) [
@@ -103,7 +103,7 @@ goes_on sheet timetable made steps more one = go (texts sheet timetable)
         ap (λ a. a.made) (s made steps) ∙ watch-made I P (made + min steps max_steps) in
         s (simulate sheet timetable made steps).made more
         ∙ ap (λ m. watch I P (m + min more max_steps)) m
-        ∙ goes_on I P made steps more (steps-bound sheet timetable I P c e f) one
+        ∙ goes_on-still I P made steps more (steps-bound sheet timetable I P c e f) one
         ∙ sym (s made (steps + more))
 
 module _ (sheet timetable : List ℕ) (made steps : ℕ) where
