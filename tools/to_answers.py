@@ -152,7 +152,8 @@ class Function:
             m = PATH.match(text, at)
             if m:
                 head = m.group(1)
-                if head in alias:
+                # a field of a record is no use of the name
+                if head in alias and not re.compile(r" = ").match(text, m.end()):
                     fields = [f for f in m.group(2).split(".") if f]
                     out.append(self.written(self.resolve(alias[head], fields)))
                 else:

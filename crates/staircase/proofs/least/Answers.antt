@@ -16,5 +16,5 @@ loop-i-preserved c =
 
 pub returns : goal.returns
 returns c = λ T.
-    let e : c.loop-i.i ≡ c.args.n = omega (arith, c.loop-i.invariant.1, c.loop-i-test) in
+    let e : c.loop-i.i ≡ s.args.n = omega (arith, c.loop-i.invariant.1, c.loop-i-test) in
     c.loop-i.invariant.2 ∙ ap (λ k. min_up_to (pred k) (amount c.args.free.now)) e ∙ least-steps c.args.free.now T c.args.n c.requires.0

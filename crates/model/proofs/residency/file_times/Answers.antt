@@ -16,8 +16,8 @@ returns c =
           c.start.ensures c.finish.ensures.value c.move_start-departs.ensures c.start-2.ensures c.release.ensures.value;
     times_within = record {
         begun = omega (arith, c.start.ensures, c.requires.in_bounds.schedule.start _ c.maker-m.ensures.upper_bound);
-        c = c.finish.ensures.upper_bound;
-        c = omega (arith, c.move_start-departs.ensures, c.requires.in_bounds.schedule.move_start k h);
+        made = c.finish.ensures.upper_bound;
+        departs = omega (arith, c.move_start-departs.ensures, c.requires.in_bounds.schedule.move_start k h);
         arrives = omega (arith, c.move_start-departs.ensures, c.requires.in_bounds.schedule.move_start k h, c.actual_move_time-takes.ensures.upper_bound);
         starts = omega (arith, c.start-2.ensures, c.requires.in_bounds.schedule.start _ c.reader-d.ensures.upper_bound);
         released = c.release.ensures.upper_bound;

@@ -19,7 +19,7 @@ returns c =
           c.value_if.ensures.value c.greater-arrival.ensures c.greater-longest.ensures;
     demand_bounds_2 = record {
         incoming = omega (arith, old.incoming, cost.move_time_bound);
-        c = omega (arith, old.arrival, cost.move_time_bound, c.finish.ensures.upper_bound, c.value_if.ensures.upper_bound, c.greater-arrival.ensures);
+        arrival = omega (arith, old.arrival, cost.move_time_bound, c.finish.ensures.upper_bound, c.value_if.ensures.upper_bound, c.greater-arrival.ensures);
         longest = omega (arith, old.longest, cost.move_time_bound, c.greater-longest.ensures);
       }
   }

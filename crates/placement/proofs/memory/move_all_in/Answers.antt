@@ -46,5 +46,5 @@ loop-k-preserved c =
 
 pub returns : goal.returns
 returns c =
-    let e : c.loop-k.k ≡ c.args.shape.files = omega (arith, c.loop-k.invariant.0, c.loop-k-test.false) in
+    let e : c.loop-k.k ≡ c.before.before.before.before.args.shape.files = omega (arith, c.loop-k.invariant.0, c.loop-k-test.false) in
     rw e c.loop-k c.loop-k.invariant.2
