@@ -22,7 +22,7 @@ returns-then-not-ascending c =
     let a = c.args in
     let J = job_of a.job.now in
     sym (allowed-by a.shape J a.i a.j _ c.ascending.ensures ∙ simp
-    (lt-ltb _ _ c.if-j-i.false, le-leb _ _ c.if-shape-j.false, not-true c.ascending.result c.if-not-ascending.true))
+    (lt-ltb _ _ c.if-j-i.false, le-leb _ _ c.if-shape-j.false, c.if-not-ascending.true))
 
 pub returns : goal.returns
 returns c =

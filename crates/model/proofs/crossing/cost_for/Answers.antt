@@ -20,15 +20,15 @@ returns c =
     let to = as_colour a.colour in
     let read = c.reader.ensures.value in
     let maker = maker-colour f L h c.colour_of-from.ensures c.maker-m.ensures.value in record {
-    cost_of = record {
+      cost_of = record {
         move_time = cost-from f L h move_time_between move-cases a.task to read maker
             (c.move_time_between-time.ensures.value ∙ ap (move_time_between from to) (c.move_time.ensures ∙ sym (move-time-at a.shape J a.k h)))
             c.value_if.ensures.value;
         newly_held = cost-from f L h newly_held size-cases a.task to read maker
             (c.newly_held-size.ensures.value ∙ ap (newly_held from to) (c.size.ensures ∙ sym (size-at a.shape J a.k h))) c.value_if-2.ensures.value;
       };
-    move_time_bound = (
+      move_time_bound = (
         omega (arith, c.value_if.ensures.upper_bound, c.move_time_between-time.ensures.upper_bound, c.move_time.ensures, (f.move_time a.k h).most),
         omega (arith, c.value_if-2.ensures.upper_bound, c.newly_held-size.ensures.upper_bound, c.size.ensures, f.size a.k h),
-      )
-  }
+      );
+    }

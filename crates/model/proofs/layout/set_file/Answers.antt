@@ -12,6 +12,6 @@ returns c =
     let a = c.args in
     let p = size_place a.k in
     let q = move_time_place a.k in record {
-    job_after = c.store_two-2.ensures ∙ ap (λ (l : List ℕ). set (set l p a.size) q a.time) c.store_two.ensures;
-    job_len = search rules
-  }
+      job_after = c.store_two-2.ensures ∙ ap (λ (l : List ℕ). set (set l p a.size) q a.time) c.store_two.ensures;
+      job_len = search rules;
+    }

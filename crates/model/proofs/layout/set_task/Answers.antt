@@ -11,6 +11,6 @@ pub returns : goal.returns
 returns c =
     let a = c.args in
     let p = work_place a.i in record {
-    job_after = c.store.ensures ∙ ap (λ (l : List ℕ). set l p a.work) c.store_two.ensures;
-    job_len = search rules
-  }
+      job_after = c.store.ensures ∙ ap (λ (l : List ℕ). set l p a.work) c.store_two.ensures;
+      job_len = search rules;
+    }

@@ -14,13 +14,13 @@ returns-then-processor-gt0-2 c =
     let h = c.requires.k_lt_files in
     let x = as_colour c.args.colour in
     let times = c.file_times.ensures in record {
-    result_value = c.closed_hold.ensures.result_value
+      result_value = c.closed_hold.ensures.result_value
           ∙ closed-from (instance_from b (job_of c.args.job.now)) (schedule_from b L) x c.args.k
           (placed-yes L (maker-run f L h c.maker-m.ensures.value) c.processor.ensures c.if-processor-gt0.true)
           (maker-here f L h c.maker-m.ensures.value x c.colour_of.ensures c.same_colour-here.ensures)
           (placed-yes L (reader-run f L h c.reader-d.ensures.value) c.processor-then-processor-gt0.ensures c.if-processor-gt0-2.true) times.times_of;
-    within = omega (arith, c.closed_hold.ensures.within, times.times_within)
-  }
+      within = omega (arith, c.closed_hold.ensures.within, times.times_within);
+    }
 
 pub returns-then-processor-gt0 : goal.returns-then-processor-gt0
 returns-then-processor-gt0 c =
@@ -29,14 +29,14 @@ returns-then-processor-gt0 c =
     let f = c.requires.in_bounds.job in
     let h = c.requires.k_lt_files in
     let x = as_colour c.args.colour in record {
-    result_value = c.open_hold.ensures.result_value
+      result_value = c.open_hold.ensures.result_value
           ∙ open-from (instance_from b (job_of c.args.job.now)) (schedule_from b L) x c.args.k
           (placed-yes L (maker-run f L h c.maker-m.ensures.value) c.processor.ensures c.if-processor-gt0.true)
           (maker-here f L h c.maker-m.ensures.value x c.colour_of.ensures c.same_colour-here.ensures)
           (placed-no L (reader-run f L h c.reader-d.ensures.value) c.processor-then-processor-gt0.ensures c.if-processor-gt0-2.false)
           (maker-start f L h c.maker-m.ensures.value c.start.ensures);
-    within = omega (arith, c.open_hold.ensures.within, c.start.ensures, c.requires.in_bounds.schedule.start _ c.maker-m.ensures.upper_bound)
-  }
+      within = omega (arith, c.open_hold.ensures.within, c.start.ensures, c.requires.in_bounds.schedule.start _ c.maker-m.ensures.upper_bound);
+    }
 
 pub returns : goal.returns
 returns c =
@@ -44,7 +44,7 @@ returns c =
     let L = entries_of c.args.schedule.now in
     let f = c.requires.in_bounds.job in
     let h = c.requires.k_lt_files in record {
-    result_value = none_from (instance_from b (job_of c.args.job.now)) (schedule_from b L) (as_colour c.args.colour) c.args.k
+      result_value = none_from (instance_from b (job_of c.args.job.now)) (schedule_from b L) (as_colour c.args.colour) c.args.k
           (placed-no L (maker-run f L h c.maker-m.ensures.value) c.processor.ensures c.if-processor-gt0.false);
-    within = omega arith
-  }
+      within = omega arith;
+    }

@@ -4,6 +4,6 @@ use Rattle.model.proofs.residency.open_hold.Goals as goal
 
 pub returns-then-here : goal.returns-then-here
 returns-then-here c = record {
-    result_value = simp c.if-here.true;
-    within = search rules
-  }
+  result_value = simp c.if-here.true;
+  within = search rules;
+}

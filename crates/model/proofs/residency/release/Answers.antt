@@ -14,6 +14,6 @@ returns c =
     let i = c.args.i in
     let h = c.requires.i_lt_tasks in
     let start = ap (λ r. r.start) (run-at c.args.shape (entries_of c.args.schedule.now) i h) in record {
-    value = omega (arith, c.greater.ensures, c.finish.ensures.value, c.start.ensures, start);
-    upper_bound = omega (arith, c.greater.ensures, c.finish.ensures.upper_bound, c.start.ensures, c.requires.in_bounds.schedule.start i h)
-  }
+      value = omega (arith, c.greater.ensures, c.finish.ensures.value, c.start.ensures, start);
+      upper_bound = omega (arith, c.greater.ensures, c.finish.ensures.upper_bound, c.start.ensures, c.requires.in_bounds.schedule.start i h);
+    }

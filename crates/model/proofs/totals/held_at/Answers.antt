@@ -14,6 +14,6 @@ returns c =
     let f = c.files_held.ensures in
     let b = c.args.shape in
     let e = held-is (instance_of b c.args.job.now) (schedule_of b c.args.schedule.now) (as_colour c.args.colour) c.args.t in record {
-    value = omega (arith, w.value, f.value, e);
-    upper_bound = omega (arith, w.upper_bound, f.upper_bound)
-  }
+      value = omega (arith, w.value, f.value, e);
+      upper_bound = omega (arith, w.upper_bound, f.upper_bound);
+    }

@@ -40,26 +40,26 @@ loop-i-preserved-then-form-i-eq35 c =
 pub returns-then-not-stands : goal.returns-then-not-stands
 returns-then-not-stands c =
     scanning-no-sign c.loop-i.invariant c.loop-i-test.true c.if-form-i-eq35.false
-    (sym c.stands.ensures ∙ not-true _ c.if-not-stands.true)
+    (sym c.stands.ensures ∙ c.if-not-stands.true)
 
 pub overflow_add-at-else-form-i-eq35 : goal.overflow_add-at-else-form-i-eq35
 overflow_add-at-else-form-i-eq35 c =
     let r = scanning-sign c.loop-i.invariant c.loop-i-test.true c.if-form-i-eq35.false
-    (sym c.stands.ensures ∙ not-false _ c.if-not-stands.false) in
+    (sym c.stands.ensures ∙ c.if-not-stands.false) in
     omega (arith, r.passed.within)
 
 pub loop-i-preserved : goal.loop-i-preserved
 loop-i-preserved c =
     scanning-sign c.loop-i.invariant c.loop-i-test.true c.if-form-i-eq35.false
-    (sym c.stands.ensures ∙ not-false _ c.if-not-stands.false)
+    (sym c.stands.ensures ∙ c.if-not-stands.false)
 
 pub returns-then-not-stands-2 : goal.returns-then-not-stands-2
 returns-then-not-stands-2 c =
-    scanning-long c.loop-i.invariant c.loop-i-test.false (sym c.stands-2.ensures ∙ not-true _ c.if-not-stands-2.true)
+    scanning-long c.loop-i.invariant c.loop-i-test.false (sym c.stands-2.ensures ∙ c.if-not-stands-2.true)
 
 pub slice_bounds-result-end-2 : goal.slice_bounds-result-end-2
 slice_bounds-result-end-2 c = sym (length-take-le _ _ c.loop-i.invariant.passed.within)
 
 pub returns : goal.returns
 returns c =
-    scanning-end c.loop-i.invariant c.loop-i-test.false (sym c.stands-2.ensures ∙ not-false _ c.if-not-stands-2.false)
+    scanning-end c.loop-i.invariant c.loop-i-test.false (sym c.stands-2.ensures ∙ c.if-not-stands-2.false)

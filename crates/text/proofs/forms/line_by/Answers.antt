@@ -6,14 +6,14 @@ use Rattle.text.proofs.forms.line_by.Goals as goal
 
 pub returns-then-not-starts_by : goal.returns-then-not-starts_by
 returns-then-not-starts_by c =
-    word-no-cut c.requires c.args.text.now _ (sym c.Starts-by.ensures ∙ not-true _ c.if-not-starts_by.true) _
+    word-no-cut c.requires c.args.text.now _ (sym c.Starts-by.ensures ∙ c.if-not-starts_by.true) _
 
 pub line_behind-requires : goal.line_behind-requires
 line_behind-requires c = record {
-    start_nonzero = (c.requires.some, behind-word c.requires c.args.text.now 0 (sym c.Starts-by.ensures ∙ not-false _ c.if-not-starts_by.false));
+    start_nonzero = (c.requires.some, behind-word c.requires c.args.text.now 0 (sym c.Starts-by.ensures ∙ c.if-not-starts_by.false));
     form_value = c.requires.lineless
   }
 
 pub returns : goal.returns
 returns c =
-    word_cut c.requires c.args.text.now _ (sym c.Starts-by.ensures ∙ not-false _ c.if-not-starts_by.false) c.line_behind.ensures
+    word_cut c.requires c.args.text.now _ (sym c.Starts-by.ensures ∙ c.if-not-starts_by.false) c.line_behind.ensures

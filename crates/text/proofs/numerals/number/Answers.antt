@@ -11,7 +11,7 @@ loop-n-init c = summing-none _
 pub spelled-requires : goal.spelled-requires
 spelled-requires c =
     summing-stop c.loop-n.invariant c.loop-n-test.true
-    (sym c.is_digit.ensures ∙ not-true _ c.if-not-is_digit.true)
+    (sym c.is_digit.ensures ∙ c.if-not-is_digit.true)
 
 pub returns-then-not-is_digit : goal.returns-then-not-is_digit
 returns-then-not-is_digit c = c.spelled.ensures
@@ -19,7 +19,7 @@ returns-then-not-is_digit c = c.spelled.ensures
 pub returns-then-n-eq-MAX_DIGITS : goal.returns-then-n-eq-MAX_DIGITS
 returns-then-n-eq-MAX_DIGITS c =
     summing-long c.loop-n.invariant c.loop-n-test.true
-    (sym c.is_digit.ensures ∙ not-false _ c.if-not-is_digit.false) c.if-n-eq-MAX_DIGITS.true
+    (sym c.is_digit.ensures ∙ c.if-not-is_digit.false) c.if-n-eq-MAX_DIGITS.true
 
 pub overflow_mul-v : goal.overflow_mul-v
 overflow_mul-v c = omega (arith, summing-below c.loop-n.invariant)
@@ -30,7 +30,7 @@ overflow_add-v c =
 
 pub loop-n-preserved : goal.loop-n-preserved
 loop-n-preserved c =
-    summing-more c.loop-n.invariant c.loop-n-test.true (sym c.is_digit.ensures ∙ not-false _ c.if-not-is_digit.false)
+    summing-more c.loop-n.invariant c.loop-n-test.true (sym c.is_digit.ensures ∙ c.if-not-is_digit.false)
     c.if-n-eq-MAX_DIGITS.false _ c.units.ensures (omega (arith, c.shared_slice_known-in-loop-n-2-1.given c.loop-n.n, c.units.ensures))
 
 pub spelled-requires-2 : goal.spelled-requires-2
