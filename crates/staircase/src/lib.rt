@@ -1,5 +1,6 @@
 // A memory's free amount as a staircase: ascending ticks, and what is free from each on. Document 02, Order 9.
 #![tactic(auto)]
+
 ghost use Rattle.std.specs.Prelude.{◌≡◌, cond, List, ℕ, ◌+◌, ◌<◌, ◌≤◌, leb, get_or};
 ghost use Rattle.rules.specs.Count.{settled_from};
 ghost use Rattle.rules.specs.Limits.{max_pairs};

@@ -11,19 +11,19 @@ nonzero h = omega (arith, h)
 pub shift-requires : goal.shift-requires
 shift-requires c =
     let h = here c.requires.1 c.requires.2 c.when-up.ensures c.when-down.ensures c.position-p.ensures in record {
-    sized = c.requires.1.free_slots;
-    p_le_n = (omega arith, omega (arith, c.requires.0));
-    room = room-first h c.if-p-eq0.true
-  }
+      sized = c.requires.1.free_slots;
+      p_le_n = (omega arith, omega (arith, c.requires.0));
+      room = room-first h c.if-p-eq0.true;
+    }
 
 pub returns-then-p-eq0 : goal.returns-then-p-eq0
 returns-then-p-eq0 c =
     let h = here c.requires.1 c.requires.2 c.when-up.ensures c.when-down.ensures c.position-p.ensures in
     let m = c.shift.ensures in record {
-    result_after = at_first h c.if-p-eq0.true _ m;
-    sized = (c.requires.1.tick_slots, m.size ∙ c.requires.1.free_slots);
-    upper_bound = omega arith
-  }
+      result_after = at_first h c.if-p-eq0.true _ m;
+      sized = (c.requires.1.tick_slots, m.size ∙ c.requires.1.free_slots);
+      upper_bound = omega arith;
+    }
 
 pub overflow_add-free : goal.overflow_add-free
 overflow_add-free c =
@@ -40,19 +40,19 @@ remove_tick-requires c =
     let h = here c.requires.1 c.requires.2 c.when-up.ensures c.when-down.ensures c.position-p.ensures in
     let q = c.is_step.ensures in
     let e = c.if-is_step.true in record {
-    sized = c.requires.1.tick_slots;
-    p_lt_n = ((here-room h q e).0, omega (arith, c.requires.0))
-  }
+      sized = c.requires.1.tick_slots;
+      p_lt_n = ((here-room h q e).0, omega (arith, c.requires.0));
+    }
 
 pub remove_amount-requires : goal.remove_amount-requires
 remove_amount-requires c =
     let h = here c.requires.1 c.requires.2 c.when-up.ensures c.when-down.ensures c.position-p.ensures in
     let q = c.is_step.ensures in
     let e = c.if-is_step.true in record {
-    sized = c.requires.1.free_slots;
-    p_lt_n = ((here-room h q e).0, omega (arith, c.requires.0));
-    room = room h
-  }
+      sized = c.requires.1.free_slots;
+      p_lt_n = ((here-room h q e).0, omega (arith, c.requires.0));
+      room = room h;
+    }
 
 pub returns-then-free-p : goal.returns-then-free-p
 returns-then-free-p c =
@@ -62,18 +62,18 @@ returns-then-free-p c =
     let later = nonzero c.if-p-eq0.false in
     let q = c.is_step.ensures in
     let e = c.if-is_step.true in record {
-    result_after = at-removed h later q e c.if-free-p.true _ _ t m;
-    sized = (t.size ∙ c.requires.1.tick_slots, m.size ∙ c.requires.1.free_slots);
-    upper_bound = omega arith
-  }
+      result_after = at-removed h later q e c.if-free-p.true _ _ t m;
+      sized = (t.size ∙ c.requires.1.tick_slots, m.size ∙ c.requires.1.free_slots);
+      upper_bound = omega arith;
+    }
 
 pub shift-requires-then-is_step : goal.shift-requires-then-is_step
 shift-requires-then-is_step c =
     let h = here c.requires.1 c.requires.2 c.when-up.ensures c.when-down.ensures c.position-p.ensures in record {
-    sized = c.requires.1.free_slots;
-    p_le_n = (omega (arith, h.position.within), omega (arith, c.requires.0));
-    room = room h
-  }
+      sized = c.requires.1.free_slots;
+      p_le_n = (omega (arith, h.position.within), omega (arith, c.requires.0));
+      room = room h;
+    }
 
 pub returns-then-is_step : goal.returns-then-is_step
 returns-then-is_step c =
@@ -82,10 +82,10 @@ returns-then-is_step c =
     let later = nonzero c.if-p-eq0.false in
     let q = c.is_step.ensures in
     let e = c.if-is_step.true in record {
-    result_after = at-kept h later q e c.if-free-p.false _ m;
-    sized = (c.requires.1.tick_slots, m.size ∙ c.requires.1.free_slots);
-    upper_bound = omega arith
-  }
+      result_after = at-kept h later q e c.if-free-p.false _ m;
+      sized = (c.requires.1.tick_slots, m.size ∙ c.requires.1.free_slots);
+      upper_bound = omega arith;
+    }
 
 pub overflow_add-level : goal.overflow_add-level
 overflow_add-level c =
@@ -100,10 +100,10 @@ overflow_sub-level c =
 pub shift-requires-then-level-before : goal.shift-requires-then-level-before
 shift-requires-then-level-before c =
     let h = here c.requires.1 c.requires.2 c.when-up.ensures c.when-down.ensures c.position-p.ensures in record {
-    sized = c.requires.1.free_slots;
-    p_le_n = (omega (arith, h.position.within), omega (arith, c.requires.0));
-    room = room h
-  }
+      sized = c.requires.1.free_slots;
+      p_le_n = (omega (arith, h.position.within), omega (arith, c.requires.0));
+      room = room h;
+    }
 
 pub returns-then-level-before : goal.returns-then-level-before
 returns-then-level-before c =
@@ -112,18 +112,18 @@ returns-then-level-before c =
     let later = nonzero c.if-p-eq0.false in
     let q = c.is_step.ensures in
     let e = c.if-is_step.false in record {
-    result_after = between-kept h later q e c.if-level-before.true _ m;
-    sized = (c.requires.1.tick_slots, m.size ∙ c.requires.1.free_slots);
-    upper_bound = omega arith
-  }
+      result_after = between-kept h later q e c.if-level-before.true _ m;
+      sized = (c.requires.1.tick_slots, m.size ∙ c.requires.1.free_slots);
+      upper_bound = omega arith;
+    }
 
 pub insert_amount-requires : goal.insert_amount-requires
 insert_amount-requires c =
     let h = here c.requires.1 c.requires.2 c.when-up.ensures c.when-down.ensures c.position-p.ensures in record {
-    sized = c.requires.1.free_slots;
-    p_le_n = (omega (arith, h.position.within), omega (arith, c.requires.0));
-    room = room h
-  }
+      sized = c.requires.1.free_slots;
+      p_le_n = (omega (arith, h.position.within), omega (arith, c.requires.0));
+      room = room h;
+    }
 
 pub returns : goal.returns
 returns c =
@@ -133,7 +133,7 @@ returns c =
     let later = nonzero c.if-p-eq0.false in
     let q = c.is_step.ensures in
     let e = c.if-is_step.false in record {
-    result_after = between-inserted h later q e c.if-level-before.false _ _ t m;
-    sized = (t.size ∙ c.requires.1.tick_slots, m.size ∙ c.requires.1.free_slots);
-    upper_bound = omega arith
-  }
+      result_after = between-inserted h later q e c.if-level-before.false _ _ t m;
+      sized = (t.size ∙ c.requires.1.tick_slots, m.size ∙ c.requires.1.free_slots);
+      upper_bound = omega arith;
+    }

@@ -8,9 +8,9 @@ loop-i-init c = (omega arith, refl)
 
 pub returns-then-free-i : goal.returns-then-free-i
 returns-then-free-i c = record {
-    value = scan-stop c.args.free.now c.args.need c.args.n c.loop-i.i c.loop-i.invariant.1 c.loop-i-test.true c.if-free-i.true;
-    upper_bound = c.loop-i.invariant.0
-  }
+  value = scan-stop c.args.free.now c.args.need c.args.n c.loop-i.i c.loop-i.invariant.1 c.loop-i-test.true c.if-free-i.true;
+  upper_bound = c.loop-i.invariant.0;
+}
 
 pub loop-i-preserved : goal.loop-i-preserved
 loop-i-preserved c =
@@ -18,6 +18,6 @@ loop-i-preserved c =
 
 pub returns : goal.returns
 returns c = record {
-    value = scan-end c.args.free.now c.args.need c.args.n c.loop-i.i c.loop-i.invariant.1 c.loop-i-test.false;
-    upper_bound = c.loop-i.invariant.0
-  }
+  value = scan-end c.args.free.now c.args.need c.args.n c.loop-i.i c.loop-i.invariant.1 c.loop-i-test.false;
+  upper_bound = c.loop-i.invariant.0;
+}

@@ -6,7 +6,7 @@ use Rattle.staircase.proofs.start.Goals as goal
 
 pub returns : goal.returns
 returns c = record {
-    result_after = steps-start _ _ _ refl refl;
-    sized = search rules;
-    value = search rules
-  }
+  result_after = steps-start _ _ _ refl refl;
+  sized = search rules;
+  value = search rules;
+}

@@ -21,5 +21,5 @@ loop-k-preserved c =
 
 pub returns : goal.returns
 returns c =
-    let e : c.loop-k.k ≡ s.args.p = omega (arith, c.loop-k.invariant.0, c.loop-k-test) in
+    let e : c.loop-k.k ≡ c.args.p = omega (arith, c.loop-k.invariant.0, c.loop-k-test) in
     inserted _ _ _ _ (rw e at c.loop-k.invariant.2) (omega (arith, c.requires.sized))

@@ -1,5 +1,5 @@
 -- `insert_amount` meets its contract.
-use Prim.Native.Nat.{◌-◌, ◌≤◌}
+use Prim.Native.Nat.{◌≤◌}
 use Rattle.staircase.specs.Slots.{shifted_by}
 use Rattle.staircase.proofs.SlotLaws.{Inserting}
 use Rattle.staircase.proofs.slots.insert_amount.Given as goal

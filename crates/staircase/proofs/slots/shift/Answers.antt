@@ -1,5 +1,4 @@
 use native.Mathlib.Omega.{arith}
-use Prim.Native.Nat.{◌-◌}
 use mathlib.Core.Path.{◌≡◌, refl}
 use Rattle.staircase.proofs.SlotLaws.{mapped-none, mapped_next}
 use Rattle.staircase.proofs.slots.shift.Goals as goal
@@ -21,5 +20,5 @@ loop-k-preserved c =
 
 pub returns : goal.returns
 returns c =
-    let e : c.loop-k.k ≡ c.before.before.args.n = omega (arith, c.loop-k.invariant.1, c.loop-k-test) in
+    let e : c.loop-k.k ≡ c.args.n = omega (arith, c.loop-k.invariant.1, c.loop-k-test) in
     rw e at c.loop-k.invariant.2
