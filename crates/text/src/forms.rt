@@ -51,8 +51,8 @@ fn line_behind<'a, 'b>(
     kind: u64,
     found: &mut [u64; 5],
 ) -> &'a [u8]
-    requires start_nonzero { (0 < start) × Passed first_line text.now start }
-    requires form_value { lineless form.now ≡ true }
+    requires start_passed { (0 < start) × Passed first_line text.now start }
+    requires form_lineless { lineless form.now ≡ true }
     ensures { Cut kind (scan_ended form.now (drop start text.now)) text.now result.now found.new }
 {
     *found = [kind, 0, 0, 0, 0];

@@ -1,5 +1,6 @@
 // The text layer: lines, numerals and forms, read from lent bytes and written to lent bytes.
 #![tactic(auto)]
+
 mod faults;
 mod forms;
 mod lines;

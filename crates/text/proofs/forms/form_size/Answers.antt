@@ -1,4 +1,3 @@
-use Prim.Native.Nat.{◌-◌}
 use native.Mathlib.Omega.{arith}
 use Rattle.text.proofs.FillLaws.{counting-start, counting-number, counting-sign, counting-end}
 use Rattle.text.proofs.forms.form_size.Goals as goal

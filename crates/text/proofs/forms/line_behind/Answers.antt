@@ -1,5 +1,3 @@
-use borrow.Author.Tests.{not-true, not-false}
-use Prim.Native.Nat.{◌-◌}
 use mathlib.Core.Path.{sym, ◌∙◌}
 use native.Mathlib.Omega.{arith}
 use lib.Seq.{length-take-le}
@@ -8,7 +6,7 @@ use Rattle.text.proofs.LineByLaws.{scanning-sign, scanning-long, scanning-end}
 use Rattle.text.proofs.forms.line_behind.Goals as goal
 
 pub loop-i-init : goal.loop-i-init
-loop-i-init c = let p = c.requires in scanning-start _ _ _ _ p.form_value p.start_nonzero.0 p.start_nonzero.1
+loop-i-init c = let p = c.requires in scanning-start _ _ _ _ p.form_lineless p.start_passed.0 p.start_passed.1
 
 pub slice_bounds-number-count : goal.slice_bounds-number-count
 slice_bounds-number-count c = omega (arith, c.loop-i.invariant.passed.within)
@@ -27,7 +25,7 @@ overflow_add-at c =
       arith,
       number-within c.loop-i.invariant c.loop-i-test.true c.if-form-i-eq35.true _ _ c.number-read.ensures
           c.if-read-eq0.false,
-      c.well-formed,
+      c.well_formed,
     )
 
 pub overflow_add-count : goal.overflow_add-count

@@ -1,4 +1,3 @@
-use Prim.Native.Nat.{◌-◌}
 use native.Mathlib.Omega.{arith}
 use Rattle.text.proofs.FillLaws.{writing_start, writing-length, writing-within, writing-end, number-room, writing-number, sign-room}
 use Rattle.text.proofs.FillLaws.{writing-sign}

@@ -1,5 +1,3 @@
-use borrow.Author.Tests.{not-true, not-false}
-use Prim.Native.Nat.{◌-◌}
 use mathlib.Core.Path.{sym, ◌∙◌}
 use native.Mathlib.Omega.{arith}
 use Rattle.text.proofs.ReadNumeralLaws.{summing-none, summing-below, summing-stop, summing-long, summing-more, summing-end}
@@ -26,12 +24,12 @@ overflow_mul-v c = omega (arith, summing-below c.loop-n.invariant)
 
 pub overflow_add-v : goal.overflow_add-v
 overflow_add-v c =
-    omega (arith, summing-below c.loop-n.invariant, c.shared_slice_known-in-loop-n-2-1.given c.loop-n.n, c.units.ensures)
+    omega (arith, summing-below c.loop-n.invariant, c.type_inv.text c.loop-n.n, c.units.ensures)
 
 pub loop-n-preserved : goal.loop-n-preserved
 loop-n-preserved c =
     summing-more c.loop-n.invariant c.loop-n-test.true (sym c.is_digit.ensures ∙ c.if-not-is_digit.false)
-    c.if-n-eq-MAX_DIGITS.false _ c.units.ensures (omega (arith, c.shared_slice_known-in-loop-n-2-1.given c.loop-n.n, c.units.ensures))
+    c.if-n-eq-MAX_DIGITS.false _ c.units.ensures (omega (arith, c.type_inv.text c.loop-n.n, c.units.ensures))
 
 pub spelled-requires-2 : goal.spelled-requires-2
 spelled-requires-2 c = summing-end c.loop-n.invariant c.loop-n-test.false
