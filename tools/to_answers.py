@@ -119,9 +119,11 @@ class Function:
         if state[0] == "C":
             return "c"
         if state[0] == "T":
-            if state[3]:
-                raise Unturned(f"part of {state[1]}")
-            return state[1]
+            parts = [f"{state[1]}.{n}" for n in state[2][state[3] :]]
+            text = parts.pop()
+            while parts:
+                text = f"({parts.pop()}, {text})"
+            return text
         if state[0] == "M":
             raise Unturned(state[1])
         if state[0] == "S":
@@ -141,7 +143,7 @@ class Function:
                     state = self.resolve(alias[head], fields)
                     alias[name] = state
                     if state[0] == "R" or (state[0] == "T" and not state[3]):
-                        out.append(f"let {name} = {self.written(state)} in" + text[m.end(2) + 3 : m.end()])
+                        out.append(f"let {name} = {state[1]} in" + text[m.end(2) + 3 : m.end()])
                         alias[name] = (state[0], name, *state[2:])
                     at = m.end()
                     continue

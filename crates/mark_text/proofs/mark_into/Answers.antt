@@ -13,7 +13,7 @@ pub judge-requires : goal.judge-requires
 judge-requires c =
     let b = c.args.shape in
     let J = job_of c.args.job.now in
-    let L = entries_of c.read.new.1.1.1.0 in
+    let L = entries_of c.read.new.schedule in
     let r = was_read (instance_from b J) c.args.paper.now (schedule_from b L) c.read.result
     c.read.ensures c.in-Read.is in
     let p = read-spellable b J L _ c.args.paper.now r in record {

@@ -13,7 +13,7 @@ pub watch-requires : goal.watch-requires
 watch-requires c =
     let b = c.args.shape in
     let J = job_of c.args.job.now in
-    let L = entries_of c.read.new.1.1.1.0 in
+    let L = entries_of c.read.new.schedule in
     let w = was_read (instance_from b J) c.args.paper.now (schedule_from b L) c.read.result c.read.ensures c.in-Read.is in
     let p = read-spellable b J L _ c.args.paper.now w in record {
     in_bounds = record { job = job-bounds b J c.requires; schedule = spelled-bounds b J L _ p };
@@ -31,7 +31,7 @@ pub returns-in-Read : goal.returns-in-Read
 returns-in-Read c =
     let b = c.args.shape in
     let J = job_of c.args.job.now in
-    let L = entries_of c.read.new.1.1.1.0 in
+    let L = entries_of c.read.new.schedule in
     let I = instance_from b J in
     let P = schedule_from b L in
     let w = was_read I c.args.paper.now P c.read.result c.read.ensures c.in-Read.is in

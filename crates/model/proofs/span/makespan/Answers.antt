@@ -15,6 +15,5 @@ loop-i-preserved c =
     let P = schedule_from c.args.shape (entries_of c.args.schedule.now) in
     omega (arith, max-next (finish_at I P) c.loop-i.i, c.finish.ensures.value)
 
--- by hand: a record of value, upper_bound
 pub returns : goal.returns
 returns c = omega (arith, span-total c.requires {n = c.loop-i.i} (omega arith))

@@ -22,7 +22,6 @@ loop-i-preserved c =
           c.hold_of-h.ensures.result_value c.covers.ensures c.size.ensures c.value_if-sum.ensures.value,
     )
 
--- by hand: a record of value, upper_bound
 pub returns : goal.returns
 returns c =
     omega (arith, files-total c.requires (as_colour c.args.colour) {n = c.loop-i.i} (omega arith) c.args.t)

@@ -22,7 +22,6 @@ loop-i-preserved c =
           c.work_hold-h.ensures.result_value c.covers.ensures c.work.ensures c.value_if-sum.ensures.value,
     )
 
--- by hand: a record of value, upper_bound
 pub returns : goal.returns
 returns c =
     omega (arith, work-total c.requires (as_colour c.args.colour) {n = c.loop-i.i} (omega arith) c.args.t)

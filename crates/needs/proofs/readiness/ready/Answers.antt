@@ -1,5 +1,6 @@
 use Prim.Native.Nat.{◌-◌}
-use mathlib.Core.Bool.{true, false}
+use mathlib.Core.Bool.{true, false, not}
+use mathlib.Core.Path.{ap}
 use native.Mathlib.Omega.{arith}
 use Rattle.needs.proofs.WalkLaws.{walk_first, walk-next}
 use Rattle.needs.proofs.ReadinessLaws.{missing-first, missing_at, missing-skip, ready-placed, ready-missing, ready-found}
@@ -26,7 +27,7 @@ pub returns-then-not-placed : goal.returns-then-not-placed
 returns-then-not-placed c =
     let h = c.loop-k-test.true in
     ready-missing c.requires.in_bounds c.args.task c.requires.task_lt_tasks c.placed.ensures h
-    (missing_at c.requires.in_bounds c.args.task h (c.loop-k.invariant.1 h) c.maker-maker.ensures.value c.placed-in-loop-k.ensures) c.if-not-placed.true
+    (missing_at c.requires.in_bounds c.args.task h (c.loop-k.invariant.1 h) c.maker-maker.ensures.value c.placed-in-loop-k.ensures) (ap not c.if-not-placed.true)
 
 pub bounds-next-k : goal.bounds-next-k
 bounds-next-k c = omega (arith, c.requires.in_bounds.job.files)
@@ -45,7 +46,7 @@ loop-k-preserved c =
       next.within,
       next.holds,
       missing-skip c.requires.in_bounds c.args.task h (inv.1 h) c.maker-maker.ensures.value c.placed-in-loop-k.ensures next inv.2
-          c.if-not-placed.false,
+          (ap not c.if-not-placed.false),
     )
 
 pub returns : goal.returns

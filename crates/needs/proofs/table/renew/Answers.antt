@@ -52,7 +52,7 @@ loop-k-preserved c =
       next.holds,
       c.admit.ensures.needs_bounds_2,
       renew-turn c.requires.in_bounds.job (schedule_of a.shape a.schedule.now) a.i h next c.reader-reader.ensures.value
-          c.admit.ensures inv.3,
+          (c.admit.ensures.admitted, (c.admit.ensures.same_but, c.admit.ensures.needs_bounds_2)) inv.3,
     )
 
 pub returns : goal.returns

@@ -60,7 +60,7 @@ loop-i-preserved c =
       c.admit.ensures.needs_bounds_2,
       fill-turn c.requires.in_bounds.job (schedule_of a.shape a.schedule.now) c.loop-i-test.true (c.sizes.ensures.by_index_2 (makes I) c.requires.chained)
           (c.sizes-in-loop-i.ensures.by_index_2 (reads I) c.requires.chained_2) c.work-work.ensures c.loop-i.invariant.1 c.set_sizes.ensures.needs_after
-          c.sizes.ensures.upper_bound c.sizes-in-loop-i.ensures.upper_bound c.admit.ensures c.loop-i.invariant.2,
+          c.sizes.ensures.upper_bound c.sizes-in-loop-i.ensures.upper_bound (c.admit.ensures.admitted, (c.admit.ensures.same_but, c.admit.ensures.needs_bounds_2)) c.loop-i.invariant.2,
     )
 
 pub returns : goal.returns

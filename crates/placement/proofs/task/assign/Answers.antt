@@ -38,7 +38,7 @@ returns c =
     let exists = chosen-exists c.args.shape c.args.last.now c.args.colour c.args.start J L
     c.requires.job_in_bounds.processors c.requires.colour_bound chosen in record {
     schedule_len_2 = (run.schedule_len.1, simp length-set c.requires.schedule_len.1);
-    last_after = placed c.requires.job_in_bounds c.args.schedule.now c.args.last.now c.args.colour c.requires.i_lt_tasks.0 c.args.start c.set_moves.new.1.1.1.1.0
+    last_after = placed c.requires.job_in_bounds c.args.schedule.now c.args.last.now c.args.colour c.requires.i_lt_tasks.0 c.args.start c.set_moves.new.schedule
           c.set_moves.ensures.schedule_len_2 c.set_moves.ensures.by_index
           c.chosen_processor-p.result c.requires.schedule_len.1 c.set_moves.ensures.schedule_after chosen exists c.slot_in-slot.ensures.value
           c.run_time.ensures.value run.schedule_after

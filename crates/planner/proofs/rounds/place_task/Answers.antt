@@ -41,8 +41,8 @@ renew-requires c =
     let L = entries_of a.schedule.now in
     let K = c.requires.kept in
     let T = c.requires.trial in
-    let M = entries_of c.place-m.new.1.1.1.1.0 in
-    let z = c.place-m.new.1.1.1.1.1.0 in
+    let M = entries_of c.place-m.new.schedule in
+    let z = c.place-m.new.last in
     let e = c.place-m.ensures.last_after in record {
     in_bounds = after-bounds a.shape J L a.last.now K a.colour T M z e;
     chained = c.requires.chained;
@@ -58,7 +58,7 @@ returns c =
     let p = c.place-m.ensures in record {
     last_after = p.last_after;
     kept_2 = after_kept a.shape (job_of a.job.now) (entries_of a.schedule.now) a.last.now c.requires.kept a.colour c.requires.trial
-            (entries_of c.place-m.new.1.1.1.1.0) c.place-m.new.1.1.1.1.1.0 p.last_after
+            (entries_of c.place-m.new.schedule) c.place-m.new.last p.last_after
             c.renew.ensures.needs p.holds_stairs_3 p.holds_stairs_4;
     needs_bounds_2 = c.renew.ensures.needs_bounds_2;
     schedule_len_2 = p.schedule_len_2

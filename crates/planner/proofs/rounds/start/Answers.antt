@@ -39,9 +39,11 @@ rounds-requires c = record {
     chained_2 = c.link-2.ensures.chained;
     order_bounds = c.by_weight-order.ensures.by_index;
     p_value = c.by_weight-order.ensures.p_value;
-    needs = c.start.ensures
+    needs = (c.start.ensures.needs, c.start.ensures.needs_bounds_2)
   }
 
--- by hand: a record of schedule_after, claims
 pub returns : goal.returns
-returns c = c.rounds.ensures
+returns c = record {
+    schedule_after = c.rounds.ensures.schedule_after;
+    claims = c.rounds.ensures.claims
+  }
