@@ -1,5 +1,4 @@
--- The lowest run of a list that overlaps another: how it changes with one run more, what a scan of the list's first runs knows of it, and the first runs of a
--- list by themselves and in the list.
+-- The lowest run of a list that overlaps another: how it changes with one run more, and what a scan of the list's first runs knows of it.
 use Prim.Native.Nat.{ℕ, ◌+◌, ◌<◌, ◌≤◌, zero-le}
 use mathlib.Core.Path.{◌≡◌, refl, sym, ◌∙◌, ap}
 use mathlib.Core.Bool.{Bool, false, ◌&&◌}
@@ -8,8 +7,8 @@ use mathlib.Core.Logic.{◌≢◌}
 use native.Mathlib.Omega.{arith}
 use native.Mathlib.Decide.{ℕ_discrete}
 use lib.Dec.{ltb, eqb}
-use lib.ListN.{length, get_or, set, take, length-set, length-replicate}
-use lib.Seq.{length-take-le, get_or-take, get_or-set_same, get_or-set_other}
+use lib.ListN.{length, get_or, set, length-set, length-replicate}
+use lib.Seq.{get_or-set_same, get_or-set_other}
 use borrow.Author.Tests.{lt-ltb, le-ltb}
 use Rattle.rules.specs.Count.{first_below}
 use Rattle.rules.specs.Limits.{max_tasks}
@@ -129,15 +128,3 @@ module _ (l : List Run) (k : ℕ) (s : Scan) (p : Passed l k s) where
     long = length-set s.runs s.n (get_or l k no_run) ∙ p.long;
     first = rw (same-other, p.count) (first_more l k s.first p.first);
   })
-
--- ---- a part of a list
-
--- what is found in the first n runs taken by themselves is found in the list
-pub first-of-part : (l : List Run) (n f : ℕ) → n ≤ length l → FirstOverlap (take n l) (length (take n l)) f → FirstOverlap l n f
-first-of-part l n f few G =
-    let F : FirstOverlap (take n l) n f = rw (length-take-le n l few) at G in
-    record {
-      within = F.within;
-      before = λ i j il jl ne. rw (← get_or-take n l i no_run (omega (arith, F.within)), ← get_or-take n l j no_run jl) (F.before i j il jl ne);
-      found = λ fl. let w = F.found fl in (w.0, w.1, w.2, rw (get_or-take n l _ no_run fl, get_or-take n l w.0 no_run w.1) at w.3);
-    }

@@ -2,5 +2,3 @@
 
 -- the lowest run of a list that overlaps another, and what a scan has passed
 pub mod FirstOverlapLaws
--- a part of an array, lent as a slice
-pub mod SliceLaws

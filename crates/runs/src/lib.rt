@@ -1,7 +1,7 @@
-// The runs of a schedule as a list of records: a lent slice of them is walked by one thin function above a covered core.
-// Proved by hand, since each has a reference to a slice of structs: `first_overlap`, the walk, and `lowest_overlap`, which lends
-// it the first runs of an array. All else is covered.
+// The runs of a schedule as a list of records: `first_overlap` walks a lent slice of them and leaves the work to `scan_run`, and
+// `lowest_overlap` lends it the first runs of an array.
 #![tactic(auto)]
+
 ghost use Rattle.std.specs.Prelude.{◌≡◌, ◌<◌, ◌≤◌, ltb, length};
 ghost use Rattle.rules.specs.Limits.{max_tasks};
 ghost use Rattle.runs.specs.First.{FirstOverlap};
@@ -108,8 +108,7 @@ pub fn first_overlap(runs: &[Run]) -> usize
     scan.first
 }
 
-// The lowest of the first n runs of the array that overlaps another of them, or n. They are lent as a slice, and the contract has no
-// reference, so that a caller needs no walk.
+// The lowest of the first n runs of the array that overlaps another of them, or n. They are lent as a slice.
 pub fn lowest_overlap(all: [Run; Board::MAX_TASKS], n: usize) -> usize
     requires { n ≤ max_tasks }
     ensures { FirstOverlap all n result }
