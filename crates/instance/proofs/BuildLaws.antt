@@ -2,13 +2,10 @@
 use Prim.Native.Nat.{ℕ, suc, pred, ◌+◌, ◌-◌, ◌≤◌, ◌<◌}
 use mathlib.Core.Path.{◌≡◌, refl, ap}
 use mathlib.Core.Bool.{Bool, true, false, ◌&&◌, ◌||◌}
-use mathlib.Core.List.{List, [], ◌∷◌}
-use mathlib.Core.Logic.{⊎_elim}
+use mathlib.Core.List.{List, []}
 use native.Mathlib.Omega.{arith}
 use native.Mathlib.Numerals.{add-one, sub-one}
 use borrow.Author.Tests.{eq-eqb, ne_eqb, ltb-true}
-use types.Run.{OneOf}
-use denote.Enum.Declared.{tag_of}
 use lib.Dec.{leb, ltb, eqb}
 use lib.ListN.{length}
 use Rattle.rules.specs.Limits.{max_tasks, max_files}
@@ -27,7 +24,6 @@ use Rattle.model.proofs.WriteLaws.{task-stored, file-stored}
 use Rattle.instance.specs.declared.line.Line.{Line}
 use Rattle.instance.specs.declared.line.Line.TheVariants.{Board as BoardLine, Task as TaskLine, File as FileLine, Malformed, OutOfRange}
 use Rattle.instance.specs.Lines.{as_reading}
-use Rattle.instance.specs.contracts.line.Line.{the_type}
 
 -- ---- the first line
 pub begun : (b : Board) (J : Job)
@@ -42,11 +38,8 @@ unfolding instance_from list_below
 begun b J = refl
 
 -- a line that is no board's
-none-is-0 : OneOf (1 ∷ 2 ∷ 3 ∷ 4 ∷ []) 0 → ⊥
-none-is-0 = ⊎_elim (λ e. omega arith) (⊎_elim (λ e. omega arith) (⊎_elim (λ e. omega arith) (λ e. omega arith)))
-
-pub no-board : (l : Line) → OneOf (1 ∷ 2 ∷ 3 ∷ 4 ∷ []) (tag_of the_type l) → wrong (fault_of (as_reading l)) ≡ due with_board (as_reading l)
-no-board (BoardLine b) h = absurd (none-is-0 h)
+pub no-board : (l : Line) → ((b : Board) → l ≡ BoardLine b → ⊥) → wrong (fault_of (as_reading l)) ≡ due with_board (as_reading l)
+no-board (BoardLine b) h = absurd (h b refl)
 no-board (TaskLine i b r w) h = refl
 no-board (FileLine i j f c) h = refl
 no-board Malformed h = refl
@@ -58,17 +51,11 @@ module _ (b : Shape) (J : Job) where
   I = instance_from b J
 
   -- a line that is neither a task's nor a file's
-  none-is-1 : OneOf (0 ∷ 2 ∷ 3 ∷ 4 ∷ []) 1 → ⊥
-  none-is-1 = ⊎_elim (λ e. omega arith) (⊎_elim (λ e. omega arith) (⊎_elim (λ e. omega arith) (λ e. omega arith)))
-
-  none-is-2 : OneOf (0 ∷ 1 ∷ 3 ∷ 4 ∷ []) 2 → ⊥
-  none-is-2 = ⊎_elim (λ e. omega arith) (⊎_elim (λ e. omega arith) (⊎_elim (λ e. omega arith) (λ e. omega arith)))
-
-  pub neither : (l : Line) → OneOf (0 ∷ 2 ∷ 3 ∷ 4 ∷ []) (tag_of the_type l) → OneOf (0 ∷ 1 ∷ 3 ∷ 4 ∷ []) (tag_of the_type l)
+  pub neither : (l : Line) → ((i b r w : ℕ) → l ≡ TaskLine i b r w → ⊥) → ((i j f c : ℕ) → l ≡ FileLine i j f c → ⊥)
       → wrong (fault_of (as_reading l)) ≡ due (with_line I) (as_reading l)
   neither (BoardLine b) g h = refl
-  neither (TaskLine i b r w) g h = absurd (none-is-1 g)
-  neither (FileLine i j f c) g h = absurd (none-is-2 h)
+  neither (TaskLine i b r w) g h = absurd (g i b r w refl)
+  neither (FileLine i j f c) g h = absurd (h i j f c refl)
   neither Malformed g h = refl
   neither OutOfRange g h = refl
 

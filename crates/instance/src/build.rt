@@ -47,7 +47,7 @@ fn fault_of(line: Line) -> Fault
 
 // The board line is due first. The instance has no task and no file yet, whatever the job array holds.
 pub fn first(line: Line) -> Step
-    ensures by_index { (xs : List ℕ) → as_step result xs ≡ due with_board (as_reading line) }
+    ensures step { (xs : List ℕ) → as_step result xs ≡ due with_board (as_reading line) }
     ensures room_in { RoomIn result }
 {
     let Line::Board { board } = line else {
@@ -70,8 +70,8 @@ fn add_task(
     work: u64,
 ) -> Step
     requires room { Room shape }
-    requires fact { In task_numbers i }
-    ensures job_after { as_step result job.new ≡
+    requires task_in_range { In task_numbers i }
+    ensures step { as_step result job.new ≡
         or_undue (with_line (instance_of shape job.old) (task_line i (record { on_blue = blue; on_red = red; work = work }))) }
     ensures room_in { RoomIn result }
 {
@@ -113,7 +113,7 @@ fn ascending(shape: Shape, job: &[u64; layout::JOB], i: u64, j: u64) -> bool
 // Whether a file from task i to task j, counted from 1, may come next.
 fn file_allowed(shape: Shape, job: &[u64; layout::JOB], i: u64, j: u64) -> bool
     requires room { Room shape }
-    requires fact { In task_numbers i }
+    requires task_in_range { In task_numbers i }
     ensures { result ≡ file_allowed (instance_of shape job.now) i j }
 {
     if j <= i {
@@ -138,8 +138,8 @@ fn add_file(
     time: u64,
 ) -> Step
     requires room { Room shape }
-    requires fact { In task_numbers i × In task_numbers j }
-    ensures job_after { as_step result job.new ≡
+    requires tasks_in_range { In task_numbers i × In task_numbers j }
+    ensures step { as_step result job.new ≡
         or_undue (with_line (instance_of shape job.old) (file_line i j size time)) }
     ensures room_in { RoomIn result }
 {
@@ -161,7 +161,7 @@ fn add_file(
 pub fn add(shape: Shape, job: &mut [u64; layout::JOB], line: Line) -> Step
     requires room { Room shape }
     requires numbered { Numbered line }
-    ensures job_after { as_step result job.new ≡ due (with_line (instance_of shape job.old)) (as_reading line) }
+    ensures step { as_step result job.new ≡ due (with_line (instance_of shape job.old)) (as_reading line) }
     ensures room_in { RoomIn result }
 {
     if let Line::Task { i, blue, red, work } = line {

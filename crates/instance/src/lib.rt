@@ -1,5 +1,6 @@
 // The board sheet: read into an instance, or refused with its fault and the number of the line; and written from an instance.
 #![tactic(auto)]
+
 mod build;
 mod line;
 mod sheet;

@@ -12,7 +12,7 @@ returns-then-out-size c =
 pub write-end-requires : goal.write-end-requires
 write-end-requires c = record {
     job_in_bounds = c.requires;
-    job_in_bounds_2 = omega (arith, c.instance_size-size.ensures, c.if-out-size.false)
+    text_fits = omega (arith, c.instance_size-size.ensures, c.if-out-size.false)
   }
 
 pub returns : goal.returns

@@ -1,7 +1,6 @@
 -- `instance::build::add_file` meets its contract: the file is allowed, and its numbers are stored.
 use mathlib.Core.Path.{sym, ◌∙◌}
 use native.Mathlib.Omega.{arith}
-use borrow.Author.Tests.{not-true, not-false}
 use Rattle.model.specs.Layout.{job_of}
 use Rattle.instance.proofs.BuildLaws.{file-refused, file-room, file-taken}
 use Rattle.instance.proofs.build.add_file.Goals as goal
@@ -9,9 +8,9 @@ use Rattle.instance.proofs.build.add_file.Goals as goal
 pub returns-then-not-file_allowed : goal.returns-then-not-file_allowed
 returns-then-not-file_allowed c =
     let a = c.args in record {
-    job_after = file-refused a.shape (job_of a.job.now) a.i a.j a.size a.time (sym c.file_allowed.ensures ∙ c.if-not-file_allowed.true);
-    room_in = tt
-  }
+      step = file-refused a.shape (job_of a.job.now) a.i a.j a.size a.time (sym c.file_allowed.ensures ∙ c.if-not-file_allowed.true);
+      room_in = tt;
+    }
 
 pub set_file-requires : goal.set_file-requires
 set_file-requires c =
@@ -23,6 +22,6 @@ returns c =
     let w = c.set_file.ensures in
     let a = c.args in
     let e = sym c.file_allowed.ensures ∙ c.if-not-file_allowed.false in record {
-    job_after = file-taken a.shape a.job.now w.job_len.0 a.i a.j a.size a.time c.requires.room.tasks e w.job_after;
-    room_in = record { tasks = c.requires.room.tasks; files = omega (arith, (file-room a.shape (job_of a.job.now) a.i a.j e).1) }
-  }
+      step = file-taken a.shape a.job.now w.job_len.0 a.i a.j a.size a.time c.requires.room.tasks e w.job_after;
+      room_in = record { tasks = c.requires.room.tasks; files = omega (arith, (file-room a.shape (job_of a.job.now) a.i a.j e).1) };
+    }

@@ -1,6 +1,6 @@
 -- `instance::build::file_allowed` meets its contract: each return by the tests that led there.
 use mathlib.Core.Path.{refl, sym, ◌∙◌}
-use borrow.Author.Tests.{lt-ltb, le-ltb, le-leb, lt-leb, not-true, not-false}
+use borrow.Author.Tests.{lt-ltb, le-ltb, le-leb, lt-leb}
 use Rattle.model.specs.Layout.{job_of}
 use Rattle.instance.proofs.BuildLaws.{allowed-by}
 use Rattle.instance.proofs.build.file_allowed.Goals as goal
@@ -31,6 +31,5 @@ returns c =
     sym (allowed-by a.shape J a.i a.j _ c.ascending.ensures ∙ simp (
       lt-ltb _ _ c.if-j-i.false,
       le-leb _ _ c.if-shape-j.false,
-      not-false
-          c.ascending.result c.if-not-ascending.false,
+      c.if-not-ascending.false,
     ))

@@ -8,12 +8,12 @@ use Rattle.instance.proofs.build.first.Goals as goal
 
 pub returns-in_default : goal.returns-in_default
 returns-in_default c = record {
-    by_index = (λ xs. ap wrong c.fault_of.ensures ∙ no-board c.args.line c.in_default.not-Board);
-    room_in = tt
-  }
+  step = (λ xs. ap wrong c.fault_of.ensures ∙ no-board c.args.line c.in_default.not-Board);
+  room_in = tt;
+}
 
 pub returns : goal.returns
 returns c = record {
-    by_index = (λ xs. rw c.in-Board.is (ap right (begun _ (job_of xs))));
-    room_in = record { tasks = omega arith; files = omega arith }
-  }
+  step = (λ xs. rw c.in-Board.is (ap right (begun _ (job_of xs))));
+  room_in = record { tasks = omega arith; files = omega arith };
+}

@@ -1,6 +1,5 @@
 -- `instance::line::task_of` meets its contract: each return by the tests that led there.
 use mathlib.Core.Path.{sym, ◌∙◌}
-use borrow.Author.Tests.{not-true, not-false}
 use Rattle.instance.proofs.line.task_of.Goals as goal
 
 pub returns-then-not-is_task : goal.returns-then-not-is_task

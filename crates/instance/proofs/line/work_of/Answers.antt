@@ -1,6 +1,5 @@
 -- `instance::line::work_of` meets its contract: W is tested, and then the numbers of a task.
 use mathlib.Core.Path.{sym, ◌∙◌}
-use borrow.Author.Tests.{not-true, not-false}
 use Rattle.instance.proofs.ParseLaws.{work-out, work_in}
 use Rattle.instance.proofs.line.work_of.Goals as goal
 

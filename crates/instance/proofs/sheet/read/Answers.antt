@@ -30,16 +30,16 @@ slice_bounds-rest_of-start c =
 
 pub rest_of-requires : goal.rest_of-requires
 rest_of-requires c = record {
-    room = subst RoomIn c.in-Next.is c.first.ensures.room_in;
-    sheet_len_bound = simp (length-take, length-drop)
-          (omega (arith, c.if-sheet-gt-MAX_TEXT.false))
-  }
+  room = subst RoomIn c.in-Next.is c.first.ensures.room_in;
+  sheet_len_bound = simp (length-take, length-drop)
+      (omega (arith, c.if-sheet-gt-MAX_TEXT.false));
+}
 
 pub returns-in-Refused : goal.returns-in-Refused
 returns-in-Refused c =
     let t = line-held c.next_line-line.ensures c.if-line-eq0.false in
     sheet-refused _ c.if-sheet-gt-MAX_TEXT.false t.first t.short _
-    (told with_board c.Line-of.result c.next_line-line.result.now c.first.result _ [] (c.Line-of.ensures ∙ t.said) (c.first.ensures.by_index [])
+    (told with_board c.line_of.result c.next_line-line.result.now c.first.result _ [] (c.line_of.ensures ∙ t.said) (c.first.ensures.step [])
     c.in-Refused.is)
 
 pub returns-in-Next : goal.returns-in-Next
@@ -48,5 +48,5 @@ returns-in-Next c =
     let t = line-held c.next_line-line.ensures c.if-line-eq0.false in
     c.rest_of.ensures
     ∙ sheet-begun _ c.if-sheet-gt-MAX_TEXT.false t.first t.short _
-    (told with_board c.Line-of.result c.next_line-line.result.now c.first.result _ zs (c.Line-of.ensures ∙ t.said) (c.first.ensures.by_index zs)
+    (told with_board c.line_of.result c.next_line-line.result.now c.first.result _ zs (c.line_of.ensures ∙ t.said) (c.first.ensures.step zs)
     c.in-Next.is)

@@ -18,17 +18,17 @@ returns-then-line-eq0 c =
 pub add-requires : goal.add-requires
 add-requires c =
     let t = line-held c.next_line-line.ensures c.if-line-eq0.false in record {
-    room = c.loop-rest.invariant.room;
-    numbered = numbered c.Line-of.result c.next_line-line.result.now (c.Line-of.ensures ∙ t.said)
-  }
+      room = c.loop-rest.invariant.room;
+      numbered = numbered c.line_of.result c.next_line-line.result.now (c.line_of.ensures ∙ t.said);
+    }
 
 pub returns-in-Refused : goal.returns-in-Refused
 returns-in-Refused c =
     let t = line-held c.next_line-line.ensures c.if-line-eq0.false in
     let I = instance_from c.loop-rest.shape (job_of c.loop-rest.job) in
     reading-refused c.loop-rest.invariant t.first t.short _
-    (told (with_line I) c.Line-of.result c.next_line-line.result.now c.add.result _ c.add.new.1.0 (c.Line-of.ensures ∙ t.said)
-    c.add.ensures.job_after c.in-Refused.is)
+    (told (with_line I) c.line_of.result c.next_line-line.result.now c.add.result _ c.add.new.job (c.line_of.ensures ∙ t.said)
+    c.add.ensures.step c.in-Refused.is)
 
 pub overflow_add-rest : goal.overflow_add-rest
 overflow_add-rest c =
@@ -55,10 +55,10 @@ pub loop-rest-preserved : goal.loop-rest-preserved
 loop-rest-preserved c =
     let t = line-held c.next_line-line.ensures c.if-line-eq0.false in
     let I = instance_from c.loop-rest.shape (job_of c.loop-rest.job) in
-    let ys = c.add.new.1.0 in
+    let ys = c.add.new.job in
     let e = c.in-Next.is in
     reading-next c.loop-rest.invariant t.first t.short _ ys
-    (told (with_line I) c.Line-of.result c.next_line-line.result.now c.add.result _ ys (c.Line-of.ensures ∙ t.said) c.add.ensures.job_after e)
+    (told (with_line I) c.line_of.result c.next_line-line.result.now c.add.result _ ys (c.line_of.ensures ∙ t.said) c.add.ensures.step e)
     (subst RoomIn e c.add.ensures.room_in)
 
 pub returns-then-shape-eq0 : goal.returns-then-shape-eq0

@@ -14,9 +14,9 @@ line_size-requires c =
 pub returns-then-work-eq0 : goal.returns-then-work-eq0
 returns-then-work-eq0 c =
     let h = line-short task_form (word c.ranges.i.fits (word c.ranges.blue.fits (word c.ranges.red.fits end))) in record {
-    value = c.line_size.ensures ∙ ap length (without-work _ _ _ _ c.if-work-eq0.true);
-    upper_bound = omega (arith, c.line_size.ensures, h)
-  }
+      value = c.line_size.ensures ∙ ap length (without-work _ _ _ _ c.if-work-eq0.true);
+      upper_bound = omega (arith, c.line_size.ensures, h);
+    }
 
 pub line_size-requires-2 : goal.line_size-requires-2
 line_size-requires-2 c =
@@ -28,6 +28,6 @@ line_size-requires-2 c =
 pub returns : goal.returns
 returns c =
     let h = line-short work_form (word c.ranges.i.fits (word c.ranges.blue.fits (word c.ranges.red.fits (word c.ranges.work.fits end)))) in record {
-    value = c.line_size-2.ensures ∙ ap length (with-work _ _ _ _ c.if-work-eq0.false);
-    upper_bound = omega (arith, c.line_size-2.ensures, h)
-  }
+      value = c.line_size-2.ensures ∙ ap length (with-work _ _ _ _ c.if-work-eq0.false);
+      upper_bound = omega (arith, c.line_size-2.ensures, h);
+    }

@@ -1,4 +1,3 @@
-use Prim.Native.Nat.{◌-◌}
 use native.Mathlib.Omega.{arith}
 use Rattle.rules.proofs.InstanceTextLaws.{files-none}
 use Rattle.text.proofs.LaidLaws.{laid_none, laid-within, laid-length, laid-room, laid_next, laid-all}
@@ -7,7 +6,7 @@ use Rattle.instance.proofs.TextLaws.{files-grow, file-piece}
 use Rattle.instance.proofs.writer.write_files.Goals as goal
 
 pub loop-k-init : goal.loop-k-init
-loop-k-init c = laid_none _ _ _ (files-none _) c.requires.files_in_bounds
+loop-k-init c = laid_none _ _ _ (files-none _) c.requires.text_fits
 
 pub slice_bounds-write_file-count : goal.slice_bounds-write_file-count
 slice_bounds-write_file-count c = laid-within _ _ (files-grow _) c.loop-k.invariant

@@ -1,4 +1,3 @@
-use Prim.Native.Nat.{◌-◌}
 use native.Mathlib.Omega.{arith}
 use Rattle.rules.proofs.InstanceTextLaws.{tasks-none}
 use Rattle.text.proofs.LaidLaws.{laid_none, laid-within, laid-length, laid-room, laid_next, laid-all}
@@ -7,7 +6,7 @@ use Rattle.instance.proofs.TextLaws.{tasks-grow, task-piece}
 use Rattle.instance.proofs.writer.write_tasks.Goals as goal
 
 pub loop-i-init : goal.loop-i-init
-loop-i-init c = laid_none _ _ _ (tasks-none _) c.requires.tasks_in_bounds
+loop-i-init c = laid_none _ _ _ (tasks-none _) c.requires.text_fits
 
 pub slice_bounds-write_task-count : goal.slice_bounds-write_task-count
 slice_bounds-write_task-count c = laid-within _ _ (tasks-grow _) c.loop-i.invariant
