@@ -54,7 +54,7 @@ class Function:
         return u if u in self.words else f
 
     def step(self, f):
-        found = self.steps.get(plain(f))
+        found = self.steps.get(plain(f)) or self.steps.get(plain(f)[:1].lower() + plain(f)[1:])
         if not found:
             return None
         news = {n for _, n in found}
@@ -155,7 +155,7 @@ class Function:
             if m:
                 head = m.group(1)
                 # a field of a record is no use of the name
-                if head in alias and not re.compile(r" = ").match(text, m.end()):
+                if head in alias and (m.group(2) or not re.compile(r" = ").match(text, m.end())):
                     fields = [f for f in m.group(2).split(".") if f]
                     out.append(self.written(self.resolve(alias[head], fields)))
                 else:

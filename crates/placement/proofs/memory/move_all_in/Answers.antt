@@ -41,10 +41,10 @@ loop-k-preserved c =
     let behind = c.requires.chained.goes_on c.args.placing.i c.loop-k.k (omega (arith, count)) (c.loop-k.invariant.1 l) in (
       omega (arith, behind.within, count),
       λ m. behind.holds (omega (arith, count)),
-      walk_turn c.args.shape c.args.job.now c.args.schedule.now c.args.placing c.loop-k.invariant.2 behind c.Move-in.ensures,
+      walk_turn c.args.shape c.args.job.now c.args.schedule.now c.args.placing c.loop-k.invariant.2 behind c.move_in-steps.ensures,
     )
 
 pub returns : goal.returns
 returns c =
-    let e : c.loop-k.k ≡ c.before.before.before.before.args.shape.files = omega (arith, c.loop-k.invariant.0, c.loop-k-test.false) in
-    rw e c.loop-k c.loop-k.invariant.2
+    let e : c.loop-k.k ≡ c.args.shape.files = omega (arith, c.loop-k.invariant.0, c.loop-k-test.false) in
+    rw e at c.loop-k.invariant.2
