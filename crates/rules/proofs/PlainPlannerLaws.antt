@@ -1,6 +1,5 @@
 -- Order 4, the calls: what a plain planner answers, what the marker says to what was written, and ample memory.
 use Prim.Native.Nat.{ℕ, ◌≤◌, ◌<◌}
-use mathlib.Core.Bool.{true}
 use mathlib.Core.List.{List}
 use mathlib.Core.Logic.{◌⊎◌, inl, inr}
 use mathlib.Core.Path.{◌≡◌, refl, sym, ap, ◌∙◌}
@@ -13,7 +12,7 @@ use Rattle.rules.specs.Validity.{ClaimTrue, Apart, AllOnTime, WithinLimits, Vali
 use Rattle.rules.specs.Scheduling.{plain, Planner, heft, complete, outcome}
 use Rattle.rules.specs.Text.{too_long, malformed, out_of_range, undue}
 use Rattle.rules.specs.InstanceText.{accepted, read_instance}
-use Rattle.rules.specs.Calls.{mark, Answer, plan_text, written, plan_by, plan}
+use Rattle.rules.specs.Calls.{mark, Answer, plan_text, plan_by, plan}
 use Rattle.rules.specs.Promises.{Spellable, Ample}
 use Rattle.rules.specs.CallsExact.{Planned, by_text, by21, by31, by0 as succeeded}
 use Rattle.rules.specs.PlainPlanners.{HeftTrials, PlainExact, NeverStuck, MarkedBack, PlanMarked, PlainParent, AmpleReadBack}

@@ -28,7 +28,7 @@ use Rattle.rules.proofs.TimetableLaws.{timetable-exact}
 use Rattle.rules.proofs.MarkerLaws.{mark-sheet, mark-timetable, mark-judges}
 use Rattle.rules.proofs.TickFaultLaws.{fault-number, judged-fault, judged-clean, judged-over, first-faulty, some-faulty}
 use Rattle.rules.proofs.TickLaws.{step_bound}
-use Rattle.rules.proofs.WatchLaws.{found, progress, watch-progress, watch-made, watch-state, progress-stops, progress-ends, watch-left, watch-past, watch-late, few-steps, step_law}
+use Rattle.rules.proofs.WatchLaws.{found, watch-progress, watch-made, watch-state, progress-stops, progress-ends, watch-left, watch-past, watch-late, few-steps, step_law}
 use Rattle.rules.proofs.ProgressLaws.{progress_law}
 
 -- ---- the two texts by cases
