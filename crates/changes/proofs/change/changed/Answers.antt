@@ -5,6 +5,6 @@ use Rattle.changes.proofs.change.changed.Goals as goal
 
 pub returns : goal.returns
 returns c = record {
-    value = changed-is _ _ c.select.ensures.value c.lesser.ensures;
-    upper_bound = omega arith
-  }
+  value = changed-is _ _ c.select.ensures.value c.lesser.ensures;
+  upper_bound = omega arith;
+}

@@ -1,4 +1,3 @@
-use Prim.Native.Nat.{◌-◌}
 use mathlib.Core.Path.{sym, ◌∙◌}
 use native.Mathlib.Omega.{arith}
 use Rattle.model.specs.Colours.{as_colour}
@@ -12,12 +11,11 @@ pub loop-k-init : goal.loop-k-init
 loop-k-init c = (omega arith, listing_none _ _ _)
 
 pub push-n-requires : goal.push-n-requires
-push-n-requires c =
-    (
-      omega (arith, c.loop-k.invariant.1.more, c.requires.files_bound),
-      omega (arith, c.size.ensures, c.requires.in_bounds.job.size c.loop-k.k c.loop-k-test.true),
-      c.hold_of-h.ensures.within,
-    )
+push-n-requires c = (
+  omega (arith, c.loop-k.invariant.1.more, c.requires.files_bound),
+  omega (arith, c.size.ensures, c.requires.in_bounds.job.size c.loop-k.k c.loop-k-test.true),
+  c.hold_of-h.ensures.within,
+)
 
 pub loop-k-preserved : goal.loop-k-preserved
 loop-k-preserved c =

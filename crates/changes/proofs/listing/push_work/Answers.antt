@@ -1,4 +1,3 @@
-use Prim.Native.Nat.{◌-◌}
 use mathlib.Core.Path.{sym, ◌∙◌}
 use native.Mathlib.Omega.{arith}
 use Rattle.model.specs.Colours.{as_colour}
@@ -12,12 +11,11 @@ pub loop-i-init : goal.loop-i-init
 loop-i-init c = (omega arith, listing_none _ _ _)
 
 pub push-n-requires : goal.push-n-requires
-push-n-requires c =
-    (
-      omega (arith, c.loop-i.invariant.1.more, c.requires.tasks_bound),
-      omega (arith, c.work.ensures, c.requires.in_bounds.job.work c.loop-i.i c.loop-i-test.true),
-      c.work_hold-h.ensures.within,
-    )
+push-n-requires c = (
+  omega (arith, c.loop-i.invariant.1.more, c.requires.tasks_bound),
+  omega (arith, c.work.ensures, c.requires.in_bounds.job.work c.loop-i.i c.loop-i-test.true),
+  c.work_hold-h.ensures.within,
+)
 
 pub loop-i-preserved : goal.loop-i-preserved
 loop-i-preserved c =

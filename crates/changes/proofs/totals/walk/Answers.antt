@@ -1,4 +1,3 @@
-use Prim.Native.Nat.{◌-◌}
 use Rattle.changes.proofs.TotalLaws.{walking-none, walking-next, greatest-walked, over-walked}
 use Rattle.changes.proofs.totals.walk.Goals as goal
 
@@ -14,6 +13,6 @@ pub returns : goal.returns
 returns c =
     let w = c.loop-i.invariant in
     let h = c.loop-i-test.false in record {
-    greatest_value = greatest-walked w h;
-    over_value = over-walked w h _ c.tick_at.ensures.0 c.tick_at.ensures.1
-  }
+      greatest_value = greatest-walked w h;
+      over_value = over-walked w h _ c.tick_at.ensures.0 c.tick_at.ensures.1;
+    }
