@@ -1,5 +1,5 @@
 /* Plans, marks and simulates timetables for a board with two memories, and converts board sheets for readers that lack working memory (W). Link
- * target/staticlib/libframes.a, which ./build (or `rt staticlib frames`) writes. docs/RULES.md has the rules.
+ * target/staticlib/libframes.a, which ./build (or `./build frames_c`) writes. docs/RULES.md has the rules.
  *
  * A text is a pointer and a length in bytes, and any bytes may be in it: what is wrong with them is the answer. What a caller has to see to:
  *   - Each pointer has as many bytes behind it as its length says, readable, and writable for `line` and `out`. With length 0 it may be NULL.

@@ -6,7 +6,7 @@ fn main() {
     let library = format!("{root}/target/staticlib/libframes.a");
     println!("cargo:rerun-if-changed={library}");
     if !Path::new(&library).exists() {
-        eprintln!("target/staticlib/libframes.a is missing: make it with `rt staticlib frames` (or ./build) in the project's folder");
+        eprintln!("target/staticlib/libframes.a is missing: make it with `./build frames_c` (or ./build) in the project's folder");
         std::process::exit(1);
     }
     println!("cargo:rustc-link-search=native={root}/target/staticlib");

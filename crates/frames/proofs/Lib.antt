@@ -6,7 +6,5 @@ pub mod MarkLaws
 pub mod PlanLaws
 -- the simulator, by what was read
 pub mod SimulateLaws
--- the exported calls
-pub mod ExportLaws
 -- Order 7: its demands, and its calls by what was read
 pub mod ConversionDemandLaws

@@ -1,4 +1,3 @@
 -- What the public calls promise, of the answer at hand.
 pub mod Demands
 pub mod ConversionDemands
-pub mod Exports

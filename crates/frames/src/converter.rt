@@ -11,7 +11,7 @@ use model::layout;
 
 // The converted sheet of a board sheet, written at the front of the buffer.
 pub fn convert(sheet: &[u8], out: &mut [u8]) -> Converted
-    ensures out_after { as_output result out.new ≡ rules-convert sheet.now out.old }
+    ensures answer { as_output result out.new ≡ rules-convert sheet.now out.old }
     ensures converter_demands { ConverterDemands sheet.now out.old (as_output result out.new) }
 {
     let mut job = [0; layout::JOB];
@@ -26,7 +26,7 @@ pub fn convert(sheet: &[u8], out: &mut [u8]) -> Converted
 
 // What is left of a timetable of the converted sheet, for the board sheet itself, written at the front of the buffer.
 pub fn strip<'a>(sheet: &'a [u8], paper: &'a [u8], out: &mut [u8]) -> Converted
-    ensures out_after { as_output result out.new ≡ rules-strip sheet.now paper.now out.old }
+    ensures answer { as_output result out.new ≡ rules-strip sheet.now paper.now out.old }
     ensures stripper_demands { StripperDemands sheet.now paper.now out.old (as_output result out.new) }
 {
     let mut job = [0; layout::JOB];

@@ -1,7 +1,6 @@
 // The public calls. None has a `requires`: any bytes may be handed in.
 #![tactic(auto)]
 mod converter;
-mod exports;
 mod marker;
 mod planners;
 mod simulation;

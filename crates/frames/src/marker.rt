@@ -12,7 +12,7 @@ use validator::judgement::Verdict;
 
 // Marks a timetable on a board sheet: number, place, span and peaks.
 pub fn mark<'a>(sheet: &'a [u8], paper: &'a [u8]) -> Verdict
-    ensures result_value { as_verdict result ≡ rules-mark sheet.now paper.now }
+    ensures answer { as_verdict result ≡ rules-mark sheet.now paper.now }
     ensures marker_demands { MarkerDemands sheet.now paper.now (as_verdict result) }
 {
     let mut job = [0; layout::JOB];

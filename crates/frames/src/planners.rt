@@ -29,7 +29,7 @@ fn plan_sheet(rule: Rule, sheet: &[u8], out: &mut [u8]) -> Answer
 
 // MemHEFT's timetable of a board sheet, written at the front of the buffer.
 pub fn mem_heft(sheet: &[u8], out: &mut [u8]) -> Answer
-    ensures out_after { as_answer result out.new ≡ rules-plan mem_heft sheet.now out.old }
+    ensures answer { as_answer result out.new ≡ rules-plan mem_heft sheet.now out.old }
     ensures planner_demands { PlannerDemands mem_heft sheet.now out.old (as_answer result out.new) }
     ensures aware_demands { AwareDemands mem_heft sheet.now out.old (as_answer result out.new) }
 {
@@ -38,7 +38,7 @@ pub fn mem_heft(sheet: &[u8], out: &mut [u8]) -> Answer
 
 // MemMinMin's.
 pub fn mem_min_min(sheet: &[u8], out: &mut [u8]) -> Answer
-    ensures out_after { as_answer result out.new ≡ rules-plan mem_min_min sheet.now out.old }
+    ensures answer { as_answer result out.new ≡ rules-plan mem_min_min sheet.now out.old }
     ensures planner_demands { PlannerDemands mem_min_min sheet.now out.old (as_answer result out.new) }
     ensures aware_demands { AwareDemands mem_min_min sheet.now out.old (as_answer result out.new) }
 {
@@ -47,17 +47,17 @@ pub fn mem_min_min(sheet: &[u8], out: &mut [u8]) -> Answer
 
 // HEFT's, whatever the limits.
 pub fn heft(sheet: &[u8], out: &mut [u8]) -> Answer
-    ensures out_after { as_answer result out.new ≡ rules-plan (rules-heft plain) sheet.now out.old }
+    ensures answer { as_answer result out.new ≡ rules-plan (rules-heft plain) sheet.now out.old }
     ensures planner_demands { PlannerDemands (rules-heft plain) sheet.now out.old (as_answer result out.new) }
     ensures plain_demands { PlainDemands (rules-heft plain) sheet.now out.old (as_answer result out.new) }
-    ensures two_trials_atask { TwoTrialsATask sheet.now (as_answer result out.new) }
+    ensures two_trials_a_task { TwoTrialsATask sheet.now (as_answer result out.new) }
 {
     plan_sheet(Rule::Heft(Memory::Plain), sheet, out)
 }
 
 // MINMIN's.
 pub fn min_min(sheet: &[u8], out: &mut [u8]) -> Answer
-    ensures out_after { as_answer result out.new ≡ rules-plan (min_min plain) sheet.now out.old }
+    ensures answer { as_answer result out.new ≡ rules-plan (min_min plain) sheet.now out.old }
     ensures planner_demands { PlannerDemands (min_min plain) sheet.now out.old (as_answer result out.new) }
     ensures plain_demands { PlainDemands (min_min plain) sheet.now out.old (as_answer result out.new) }
 {

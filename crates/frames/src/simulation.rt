@@ -11,7 +11,7 @@ use simulator::answer::Simulation;
 
 // Makes so many steps on a timetable, from the steps already made: how that ends, the steps made in all, and the state that it leaves.
 pub fn simulate<'a>(sheet: &'a [u8], paper: &'a [u8], made: u64, steps: u64) -> Simulation
-    ensures result_value { as_simulation result ≡ rules-simulate sheet.now paper.now made steps }
+    ensures answer { as_simulation result ≡ rules-simulate sheet.now paper.now made steps }
     ensures simulator_demands { SimulatorDemands sheet.now paper.now made steps (as_simulation result) }
 {
     let mut job = [0; layout::JOB];

@@ -1,0 +1,2 @@
+-- the exported calls
+pub mod ExportLaws

@@ -1,0 +1,2 @@
+-- The numbers of the exported calls.
+pub mod Exports
