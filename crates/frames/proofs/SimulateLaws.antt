@@ -1,6 +1,6 @@
--- The simulator's answer, by what was read of the board sheet, and its numbers.
+-- The simulator's answer, by what was read of the board sheet.
 use Prim.Native.Nat.{ℕ}
-use mathlib.Core.List.{List, [], ◌∷◌}
+use mathlib.Core.List.{List}
 use mathlib.Core.Path.{◌≡◌, refl, sym, ap, ◌∙◌}
 use Rattle.rules.specs.Model.{Instance}
 use Rattle.rules.specs.Text.{in_sheet, fault_number}
@@ -8,7 +8,7 @@ use Rattle.rules.specs.InstanceText as Sheet
 use Rattle.rules.specs.InstanceText.{read_instance}
 use Rattle.rules.specs.ScheduleText as Paper
 use Rattle.rules.specs.ScheduleText.{read_schedule}
-use Rattle.rules.specs.Simulation.{Simulation, number_of, place_of, left_of, span_of, refused_text, simulate_on, simulate_by, simulate}
+use Rattle.rules.specs.Simulation.{Simulation, refused_text, simulate_on, simulate_by, simulate}
 use Rattle.rules.proofs.SimulatorLaws.{simulate-sheet}
 use Rattle.text.specs.declared.faults.Fault.{Fault}
 use Rattle.text.specs.Faults.{as_fault}
@@ -18,7 +18,6 @@ use Rattle.instance.specs.declared.sheet.InstanceRead.{InstanceRead}
 use Rattle.instance.specs.declared.sheet.InstanceRead.TheVariants as SheetRead
 use Rattle.instance.specs.Reads.{as_read as as_instance}
 use Rattle.instance.proofs.AcceptedLaws.{read-accepted, read-refused}
-use Rattle.frames.specs.Exports.{simulation_numbers}
 
 simulate-accepted : (sheet timetable : List ℕ) (made steps : ℕ) (I : Instance) → read_instance sheet ≡ Sheet.accepted I
     → simulate sheet timetable made steps ≡ simulate_on I timetable made steps
@@ -37,8 +36,3 @@ module _ (sheet timetable : List ℕ) (made steps : ℕ) (xs : List ℕ) (r : In
   pub simulated-refused : {f : Fault} {k n : ℕ} → r ≡ SheetRead.Refused f k → n ≡ fault_number in_sheet (as_fault f) → a ≡ refused_text n k
       → a ≡ simulate sheet timetable made steps
   simulated-refused {k = k} e p q = q ∙ rw p (sym (simulate-sheet sheet timetable _ k (read-refused sheet r xs read _ _ e) made steps))
-
--- the numbers that the export writes
-pub simulation-told : {a b : Simulation} {n k l s : ℕ} → a ≡ b → n ≡ number_of a.progress → k ≡ place_of a.progress → l ≡ left_of a.progress
-    → s ≡ span_of a.progress → ◌≡◌ {A = List ℕ} (n ∷ k ∷ l ∷ s ∷ a.made ∷ a.state.time ∷ []) (simulation_numbers b)
-simulation-told e n k l s = rw (n, k, l, s) (ap simulation_numbers e)

@@ -1,0 +1,23 @@
+-- `convert` meets its contract: the answer and the buffer are the definition's, and so keep the demands.
+use Rattle.instance.proofs.AcceptedLaws.{read-accepted, well-formed}
+use Rattle.frames.proofs.ConversionDemandLaws.{converter-demands, converted-on, unconverted}
+use Rattle.frames.proofs.converter.convert.Goals as goal
+
+pub convert_instance-requires : goal.convert_instance-requires
+convert_instance-requires c =
+    let xs = c.read.new.1.0 in
+    well-formed c.args.sheet.now _ xs (read-accepted c.args.sheet.now c.read.result xs c.read.ensures _ c.in-Accepted.is)
+
+pub returns-in-Refused : goal.returns-in-Refused
+returns-in-Refused c =
+    let e = unconverted c.args.sheet.now _ c.read.result c.read.ensures c.args.out.now c.in-Refused.is c.sheet_number.ensures in record {
+    answer = e;
+    converter_demands = converter-demands c.args.sheet.now c.args.out.now e
+  }
+
+pub returns-in-Accepted : goal.returns-in-Accepted
+returns-in-Accepted c =
+    let e = converted-on c.args.sheet.now _ c.read.result c.read.ensures c.args.out.now c.in-Accepted.is c.convert_instance.ensures in record {
+    answer = e;
+    converter_demands = converter-demands c.args.sheet.now c.args.out.now e
+  }

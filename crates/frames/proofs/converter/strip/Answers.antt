@@ -1,0 +1,23 @@
+-- `strip` meets its contract: the answer and the buffer are the definition's, and so keep the demands.
+use Rattle.instance.proofs.AcceptedLaws.{read-accepted, well-formed}
+use Rattle.frames.proofs.ConversionDemandLaws.{stripper-demands, stripped-on, unstripped}
+use Rattle.frames.proofs.converter.strip.Goals as goal
+
+pub strip_paper-requires : goal.strip_paper-requires
+strip_paper-requires c =
+    let xs = c.read.new.1.0 in
+    well-formed c.args.sheet.now _ xs (read-accepted c.args.sheet.now c.read.result xs c.read.ensures _ c.in-Accepted.is)
+
+pub returns-in-Refused : goal.returns-in-Refused
+returns-in-Refused c =
+    let e = unstripped c.args.sheet.now _ c.read.result c.read.ensures c.args.paper.now c.args.out.now c.in-Refused.is c.sheet_number.ensures in record {
+    answer = e;
+    stripper_demands = stripper-demands c.args.sheet.now c.args.paper.now c.args.out.now e
+  }
+
+pub returns-in-Accepted : goal.returns-in-Accepted
+returns-in-Accepted c =
+    let e = stripped-on c.args.sheet.now _ c.read.result c.read.ensures c.args.paper.now c.args.out.now c.in-Accepted.is c.strip_paper.ensures in record {
+    answer = e;
+    stripper_demands = stripper-demands c.args.sheet.now c.args.paper.now c.args.out.now e
+  }

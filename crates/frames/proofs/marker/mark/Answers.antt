@@ -1,0 +1,29 @@
+-- `mark` meets its contract: the answer is the definition's, and so keeps the demands.
+use Rattle.instance.proofs.AcceptedLaws.{read-accepted, well-formed}
+use Rattle.frames.proofs.DemandLaws.{marker-demands}
+use Rattle.frames.proofs.MarkLaws.{marked-on, marked_refused}
+use Rattle.frames.proofs.marker.mark.Goals as goal
+
+pub mark_paper-requires : goal.mark_paper-requires
+mark_paper-requires c =
+    let xs = c.read.new.1.0 in
+    well-formed c.args.sheet.now _ xs
+    (read-accepted c.args.sheet.now c.read.result xs c.read.ensures _
+    c.in-Accepted.is)
+
+pub returns-in-Refused : goal.returns-in-Refused
+returns-in-Refused c =
+    let v = marked_refused c.args.sheet.now c.args.paper.now _ c.read.result
+    c.read.ensures c.in-Refused.is c.sheet_number.ensures
+    c.refused.ensures in record {
+    answer = v;
+    marker_demands = marker-demands c.args.sheet.now c.args.paper.now v
+  }
+
+pub returns-in-Accepted : goal.returns-in-Accepted
+returns-in-Accepted c =
+    let v = marked-on c.args.sheet.now c.args.paper.now _ c.read.result
+    c.read.ensures c.in-Accepted.is c.mark_paper.ensures in record {
+    answer = v;
+    marker_demands = marker-demands c.args.sheet.now c.args.paper.now v
+  }

@@ -1,0 +1,29 @@
+-- `simulate` meets its contract: the answer is the definition's, and so keeps the demands.
+use Rattle.instance.proofs.AcceptedLaws.{read-accepted, well-formed}
+use Rattle.frames.proofs.DemandLaws.{simulator-demands}
+use Rattle.frames.proofs.SimulateLaws.{simulated-on, simulated-refused}
+use Rattle.frames.proofs.simulation.simulate.Goals as goal
+
+pub simulate_paper-requires : goal.simulate_paper-requires
+simulate_paper-requires c =
+    let xs = c.read.new.1.0 in
+    well-formed c.args.sheet.now _ xs
+    (read-accepted c.args.sheet.now c.read.result xs c.read.ensures _
+    c.in-Accepted.is)
+
+pub returns-in-Refused : goal.returns-in-Refused
+returns-in-Refused c =
+    let v = simulated-refused c.args.sheet.now c.args.paper.now c.args.made c.args.steps _ c.read.result
+    c.read.ensures c.in-Refused.is c.sheet_number.ensures
+    c.refused.ensures in record {
+    answer = v;
+    simulator_demands = simulator-demands c.args.sheet.now c.args.paper.now c.args.made c.args.steps v
+  }
+
+pub returns-in-Accepted : goal.returns-in-Accepted
+returns-in-Accepted c =
+    let v = simulated-on c.args.sheet.now c.args.paper.now c.args.made c.args.steps _ c.read.result
+    c.read.ensures c.in-Accepted.is c.simulate_paper.ensures in record {
+    answer = v;
+    simulator_demands = simulator-demands c.args.sheet.now c.args.paper.now c.args.made c.args.steps v
+  }
