@@ -1,5 +1,6 @@
 // The public calls. None has a `requires`: any bytes may be handed in.
 #![tactic(auto)]
+
 mod converter;
 mod marker;
 mod planners;

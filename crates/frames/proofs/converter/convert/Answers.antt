@@ -11,13 +11,13 @@ convert_instance-requires c =
 pub returns-in-Refused : goal.returns-in-Refused
 returns-in-Refused c =
     let e = unconverted c.args.sheet.now _ c.read.result c.read.ensures c.args.out.now c.in-Refused.is c.sheet_number.ensures in record {
-    answer = e;
-    converter_demands = converter-demands c.args.sheet.now c.args.out.now e
-  }
+      answer = e;
+      converter_demands = converter-demands c.args.sheet.now c.args.out.now e;
+    }
 
 pub returns-in-Accepted : goal.returns-in-Accepted
 returns-in-Accepted c =
     let e = converted-on c.args.sheet.now _ c.read.result c.read.ensures c.args.out.now c.in-Accepted.is c.convert_instance.ensures in record {
-    answer = e;
-    converter_demands = converter-demands c.args.sheet.now c.args.out.now e
-  }
+      answer = e;
+      converter_demands = converter-demands c.args.sheet.now c.args.out.now e;
+    }

@@ -11,13 +11,13 @@ strip_paper-requires c =
 pub returns-in-Refused : goal.returns-in-Refused
 returns-in-Refused c =
     let e = unstripped c.args.sheet.now _ c.read.result c.read.ensures c.args.paper.now c.args.out.now c.in-Refused.is c.sheet_number.ensures in record {
-    answer = e;
-    stripper_demands = stripper-demands c.args.sheet.now c.args.paper.now c.args.out.now e
-  }
+      answer = e;
+      stripper_demands = stripper-demands c.args.sheet.now c.args.paper.now c.args.out.now e;
+    }
 
 pub returns-in-Accepted : goal.returns-in-Accepted
 returns-in-Accepted c =
     let e = stripped-on c.args.sheet.now _ c.read.result c.read.ensures c.args.paper.now c.args.out.now c.in-Accepted.is c.strip_paper.ensures in record {
-    answer = e;
-    stripper_demands = stripper-demands c.args.sheet.now c.args.paper.now c.args.out.now e
-  }
+      answer = e;
+      stripper_demands = stripper-demands c.args.sheet.now c.args.paper.now c.args.out.now e;
+    }

@@ -16,14 +16,14 @@ returns-in-Refused c =
     let v = marked_refused c.args.sheet.now c.args.paper.now _ c.read.result
     c.read.ensures c.in-Refused.is c.sheet_number.ensures
     c.refused.ensures in record {
-    answer = v;
-    marker_demands = marker-demands c.args.sheet.now c.args.paper.now v
-  }
+      answer = v;
+      marker_demands = marker-demands c.args.sheet.now c.args.paper.now v;
+    }
 
 pub returns-in-Accepted : goal.returns-in-Accepted
 returns-in-Accepted c =
     let v = marked-on c.args.sheet.now c.args.paper.now _ c.read.result
     c.read.ensures c.in-Accepted.is c.mark_paper.ensures in record {
-    answer = v;
-    marker_demands = marker-demands c.args.sheet.now c.args.paper.now v
-  }
+      answer = v;
+      marker_demands = marker-demands c.args.sheet.now c.args.paper.now v;
+    }

@@ -9,8 +9,8 @@ returns c =
     let sheet = c.args.sheet.now in
     let out = c.args.out.now in
     let e = c.plan_sheet.ensures in record {
-    answer = e;
-    planner_demands = planner-demands (heft plain) sheet out e;
-    plain_demands = plain-demands (heft plain) sheet out refl e;
-    two_trials_a_task = two-trials sheet out e
-  }
+      answer = e;
+      planner_demands = planner-demands (heft plain) sheet out e;
+      plain_demands = plain-demands (heft plain) sheet out refl e;
+      two_trials_a_task = two-trials sheet out e;
+    }

@@ -9,7 +9,7 @@ returns c =
     let sheet = c.args.sheet.now in
     let out = c.args.out.now in
     let e = c.plan_sheet.ensures in record {
-    answer = e;
-    planner_demands = planner-demands (min_min plain) sheet out e;
-    plain_demands = plain-demands (min_min plain) sheet out refl e
-  }
+      answer = e;
+      planner_demands = planner-demands (min_min plain) sheet out e;
+      plain_demands = plain-demands (min_min plain) sheet out refl e;
+    }

@@ -16,14 +16,14 @@ returns-in-Refused c =
     let v = simulated-refused c.args.sheet.now c.args.paper.now c.args.made c.args.steps _ c.read.result
     c.read.ensures c.in-Refused.is c.sheet_number.ensures
     c.refused.ensures in record {
-    answer = v;
-    simulator_demands = simulator-demands c.args.sheet.now c.args.paper.now c.args.made c.args.steps v
-  }
+      answer = v;
+      simulator_demands = simulator-demands c.args.sheet.now c.args.paper.now c.args.made c.args.steps v;
+    }
 
 pub returns-in-Accepted : goal.returns-in-Accepted
 returns-in-Accepted c =
     let v = simulated-on c.args.sheet.now c.args.paper.now c.args.made c.args.steps _ c.read.result
     c.read.ensures c.in-Accepted.is c.simulate_paper.ensures in record {
-    answer = v;
-    simulator_demands = simulator-demands c.args.sheet.now c.args.paper.now c.args.made c.args.steps v
-  }
+      answer = v;
+      simulator_demands = simulator-demands c.args.sheet.now c.args.paper.now c.args.made c.args.steps v;
+    }
