@@ -15,11 +15,11 @@ pub judge_memory-requires : goal.judge_memory-requires
 judge_memory-requires c = let I = instance_from c.args.shape (job_of c.args.job.now) in
     let P = schedule_from c.args.shape (entries_of c.args.schedule.now) in
     let n = task-count c.args.shape (job_of c.args.job.now) in record {
-    well_formed = c.requires.well_formed;
-    in_bounds = c.requires.in_bounds;
-    placed = c.requires.placed;
-    all_on_time = timely I c.requires.well_formed P c.first_early-task.ensures n c.if-task-shape.false
-  }
+      well_formed = c.requires.well_formed;
+      in_bounds = c.requires.in_bounds;
+      placed = c.requires.placed;
+      all_on_time = timely I c.requires.well_formed P c.first_early-task.ensures n c.if-task-shape.false;
+    }
 
 pub returns : goal.returns
 returns c = let I = instance_from c.args.shape (job_of c.args.job.now) in
