@@ -1,8 +1,5 @@
-use Prim.Native.Nat.{◌-◌}
-use mathlib.Core.Bool.{false}
 use mathlib.Core.Path.{◌∙◌}
 use native.Mathlib.Omega.{arith}
-use Rattle.rules.specs.Simulation.{file_early}
 use Rattle.simulator.proofs.FaultLaws.{files-yes, files-over, early-is}
 use Rattle.model.specs.Layout.{job_of, entries_of, instance_from, schedule_from}
 use Rattle.model.proofs.StepLaws.{any-empty, any_next}

@@ -1,7 +1,4 @@
-use Prim.Native.Nat.{◌-◌}
-use mathlib.Core.Bool.{false}
 use native.Mathlib.Omega.{arith}
-use Rattle.simulator.specs.Faults.{begun_overlaps}
 use Rattle.simulator.proofs.FaultLaws.{tasks-yes, tasks-over}
 use Rattle.model.specs.Layout.{job_of, entries_of}
 use Rattle.model.proofs.StepLaws.{any-empty, any_next}

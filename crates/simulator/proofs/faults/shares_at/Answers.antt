@@ -1,8 +1,5 @@
-use Prim.Native.Nat.{◌-◌}
-use mathlib.Core.Bool.{false}
 use mathlib.Core.Path.{◌∙◌}
 use native.Mathlib.Omega.{arith}
-use Rattle.simulator.specs.Faults.{starts_overlapping}
 use Rattle.simulator.proofs.FaultLaws.{tasks-yes, tasks-over, shares-is}
 use Rattle.model.specs.Layout.{job_of, entries_of, instance_from, schedule_from}
 use Rattle.model.proofs.StepLaws.{any-empty, any_next}

@@ -1,8 +1,6 @@
-use Prim.Native.Nat.{◌-◌}
 use mathlib.Core.Path.{◌≡◌}
 use native.Mathlib.Omega.{arith}
 use Rattle.rules.specs.Limits.{max_files}
-use Rattle.rules.specs.Simulation.{held_in}
 use Rattle.model.specs.Layout.{job_of, entries_of, instance_from, schedule_from}
 use Rattle.simulator.proofs.StateLaws.{filled_next, contents-filled}
 use borrow.Author.Rules.{rules}

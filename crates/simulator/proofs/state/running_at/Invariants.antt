@@ -11,7 +11,7 @@ use Rattle.simulator.proofs.state.running_at.Given as goal
 abbrev pub invariant-loop-p : goal.invariant-loop-p
 invariant-loop-p l =
     (l.p ≤ all_processors) × (length l.running ≡ all_processors)
-    × Filled (λ l.p. running_on (instance_from l.shape (job_of l.job)) (schedule_from l.shape (entries_of l.schedule)) l.t (suc l.p)) l.p l.running
+    × Filled (λ q. running_on (instance_from l.shape (job_of l.job)) (schedule_from l.shape (entries_of l.schedule)) l.t (suc q)) l.p l.running
 
 abbrev pub decreases-loop-p : goal.decreases-loop-p
 decreases-loop-p l = all_processors - l.p

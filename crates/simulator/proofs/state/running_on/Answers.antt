@@ -1,5 +1,3 @@
-use Prim.Native.Nat.{◌-◌}
-use mathlib.Core.Bool.{false}
 use native.Mathlib.Omega.{arith}
 use Rattle.simulator.proofs.StateLaws.{found-on, none-on}
 use Rattle.model.specs.Layout.{job_of, entries_of}

@@ -1,4 +1,3 @@
-use Prim.Native.Nat.{◌-◌}
 use native.Mathlib.Omega.{arith}
 use Rattle.model.specs.Layout.{job_of, entries_of}
 use Rattle.simulator.proofs.SoonestLaws.{soonest-begins, soonest-next}

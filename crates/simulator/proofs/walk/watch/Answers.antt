@@ -1,4 +1,3 @@
-use Prim.Native.Nat.{◌-◌}
 use native.Mathlib.Omega.{arith}
 use Rattle.model.specs.Layout.{job_of, entries_of, instance_from, schedule_from}
 use Rattle.model.proofs.LayoutLaws.{placed-complete}
