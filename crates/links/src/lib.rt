@@ -1,5 +1,6 @@
 // The files of each task, as chains made once for an instance: those that it makes, or those that it reads.
 #![tactic(auto)]
+
 ghost use Rattle.std.specs.Prelude.{◌≡◌, ℕ, ◌<◌, eqb, length};
 ghost use Rattle.rules.specs.Limits.{max_tasks, max_files};
 ghost use Rattle.model.specs.Layout.{instance_of, JobInBounds};

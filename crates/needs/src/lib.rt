@@ -1,5 +1,6 @@
 // What a planner's trials ask of the files, worked out once for a task, when it becomes ready, from chains of each task's files.
 #![tactic(auto)]
+
 use rules::Board;
 
 pub mod demand;

@@ -1,10 +1,10 @@
 -- What is kept beside a complete schedule says what it has to claim.
 use Prim.Native.Nat.{ℕ, ◌+◌, ◌-◌, ◌≤◌, ◌<◌, pred}
-use mathlib.Core.List.{List, []}
-use mathlib.Core.Path.{◌≡◌, refl, sym, ap, ◌∙◌}
+use mathlib.Core.List.{List}
+use mathlib.Core.Path.{◌≡◌, sym, ap, ◌∙◌}
 use native.Mathlib.Omega.{arith}
 use lib.ListN.{get_or}
-use Rattle.rules.specs.Count.{max_below, min_up_to}
+use Rattle.rules.specs.Count.{max_below}
 use Rattle.rules.specs.Model.{blue, red, Instance, Schedule, limit_of, processor_count}
 use Rattle.rules.specs.Model.{Colour as RulesColour}
 use Rattle.rules.specs.Promises.{WellFormed}

@@ -8,7 +8,7 @@ use lib.ListN.{get_or}
 use Rattle.rules.specs.Limits.{max_tasks}
 use Rattle.rules.specs.Model as Rules
 use Rattle.rules.specs.Model.{Instance, Schedule, is_placed, run_at}
-use Rattle.rules.specs.Promises.{WellFormed, Trial}
+use Rattle.rules.specs.Promises.{Trial}
 use Rattle.rules.specs.Scheduling.{Partial, aware, assign}
 use Rattle.rules.specs.Staircase.{Placed, placed}
 use Rattle.rules.proofs.PlacedLaws.{assign-placed}

@@ -6,7 +6,7 @@ use mathlib.Core.Path.{◌≡◌, refl, sym, ap, ◌∙◌}
 use native.Mathlib.Omega.{arith}
 use native.Mathlib.Numerals.{add-one}
 use Rattle.rules.specs.Limits.{max_tasks, ticks}
-use Rattle.rules.specs.Model.{blue, red, Instance, Schedule, task_count}
+use Rattle.rules.specs.Model.{blue, red, Instance, task_count}
 use Rattle.rules.specs.Model.{Colour as RulesColour}
 use Rattle.rules.specs.Validity.{Complete}
 use Rattle.rules.specs.Scheduling.{Partial, Memory, aware, plain, empty, assign, nothing, choose, Planner, memory_of, round_of, complete, stuck, rounds, outcome}
@@ -22,7 +22,7 @@ use Rattle.model.specs.declared.layout.Shape.{Shape}
 use Rattle.model.specs.declared.colour.Colour.{Colour}
 use Rattle.model.specs.declared.colour.Colour.TheVariants.{Blue, Red}
 use Rattle.model.specs.Colours.{as_colour}
-use Rattle.model.specs.Layout.{Job, Entries, instance_from, schedule_from, partial_from, Bounds, LastBounds, last_tick}
+use Rattle.model.specs.Layout.{Job, Entries, instance_from, schedule_from, partial_from, Bounds, LastBounds}
 use Rattle.model.proofs.LayoutLaws.{task-count, file-count, limit-of, run-at, move-at, last-finish-at, job-bounds}
 use Rattle.staircase.specs.declared.Counts.{Counts}
 use Rattle.staircase.specs.Stairs.{HoldsStairs}

@@ -1,5 +1,6 @@
 // The planners: rounds, each of which places one task, until all are placed or none fits.
 #![tactic(auto)]
+
 ghost use Rattle.std.specs.Prelude.{◌≡◌, replicate};
 ghost use Rattle.rules.specs.Limits.{memory_limits};
 ghost use Rattle.rules.specs.Promises.{WellFormed};

@@ -7,14 +7,13 @@ use borrow.Author.Rules.{rules}
 use Rattle.links.proofs.link.Goals as goal
 
 pub loop-k-init : goal.loop-k-init
-loop-k-init c =
-    (
-      omega arith,
-      search rules,
-      search rules,
-      chained-none c.args.shape (job_of c.args.job.now) (has_at c.args.end (instance_from c.args.shape (job_of c.args.job.now)))
-          c.requires.tasks,
-    )
+loop-k-init c = (
+  omega arith,
+  search rules,
+  search rules,
+  chained-none c.args.shape (job_of c.args.job.now) (has_at c.args.end (instance_from c.args.shape (job_of c.args.job.now)))
+      c.requires.tasks,
+)
 
 pub loop-k-preserved : goal.loop-k-preserved
 loop-k-preserved c =
@@ -29,6 +28,6 @@ loop-k-preserved c =
 pub returns : goal.returns
 returns c =
     let J = job_of c.args.job.now in record {
-    chained = chained-all c.args.shape J (has_at c.args.end (instance_from c.args.shape J)) (omega arith) c.loop-k.invariant.3;
-    first_len = (c.loop-k.invariant.1, c.loop-k.invariant.2)
-  }
+      chained = chained-all c.args.shape J (has_at c.args.end (instance_from c.args.shape J)) (omega arith) c.loop-k.invariant.3;
+      first_len = (c.loop-k.invariant.1, c.loop-k.invariant.2);
+    }

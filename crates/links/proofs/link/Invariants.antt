@@ -1,5 +1,5 @@
 -- `link` meets its contract. The invariant: the arrays chain the files from k on.
-use Prim.Native.Nat.{◌≤◌, ◌-◌}
+use Prim.Native.Nat.{◌≤◌}
 use mathlib.Core.Path.{◌≡◌}
 use lib.ListN.{length}
 use Rattle.rules.specs.Limits.{max_tasks, max_files}

@@ -1,4 +1,3 @@
-use Prim.Native.Nat.{◌-◌}
 use mathlib.Core.Path.{sym}
 use native.Mathlib.Omega.{arith}
 use Rattle.model.specs.Layout.{job_of}
@@ -20,6 +19,6 @@ loop-i-preserved c =
 
 pub returns : goal.returns
 returns c = record {
-    value = count-all c.args.shape (job_of c.args.job.now) (omega arith) c.loop-i.invariant.2;
-    upper_bound = omega arith
-  }
+  value = count-all c.args.shape (job_of c.args.job.now) (omega arith) c.loop-i.invariant.2;
+  upper_bound = omega arith;
+}

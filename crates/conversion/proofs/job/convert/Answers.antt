@@ -5,10 +5,10 @@ use Rattle.conversion.proofs.job.convert.Goals as goal
 
 pub convert_tasks-requires : goal.convert_tasks-requires
 convert_tasks-requires c = record {
-    added_value = c.requires.added_value;
-    tasks_bound = c.requires.tasks_bound.0;
-    stored = c.add_tasks.ensures _ c.requires.added_value
-  }
+  added_value = c.requires.added_value;
+  tasks_bound = c.requires.tasks_bound.0;
+  stored = c.add_tasks.ensures _ c.requires.added_value;
+}
 
 pub returns : goal.returns
 returns c =

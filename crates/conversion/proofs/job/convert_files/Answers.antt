@@ -1,4 +1,3 @@
-use Prim.Native.Nat.{◌-◌}
 use mathlib.Core.Path.{refl}
 use native.Mathlib.Omega.{arith}
 use Rattle.conversion.proofs.StoredLaws.{stored_at}
@@ -9,12 +8,12 @@ loop-k-init c = (omega arith, stored_at c.requires.stored refl (omega arith))
 
 pub convert_file-requires : goal.convert_file-requires
 convert_file-requires c = record {
-    job_in_bounds = c.requires.job_in_bounds;
-    added_value = c.requires.added_value;
-    tasks_bound = c.requires.tasks_bound;
-    k_lt_files = c.loop-k-test.true;
-    stored = c.loop-k.invariant.1
-  }
+  job_in_bounds = c.requires.job_in_bounds;
+  added_value = c.requires.added_value;
+  tasks_bound = c.requires.tasks_bound;
+  k_lt_files = c.loop-k-test.true;
+  stored = c.loop-k.invariant.1;
+}
 
 pub loop-k-preserved : goal.loop-k-preserved
 loop-k-preserved c = (omega arith, stored_at c.convert_file.ensures refl (omega arith))

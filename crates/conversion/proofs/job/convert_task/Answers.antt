@@ -12,10 +12,10 @@ returns-then-work-eq0 c =
     let set = c.set_task.ensures in
     let b = c.args.shape in
     let J = job_of c.args.job.now in record {
-    value = c.requires.k_value ∙ count-without b J c.requires.i_lt_tasks c.work-work.ensures c.if-work-eq0.true;
-    stored_2 = task-more c.requires.stored set.job_len.0 (omega arith) _ _ _ set.job_after
-          (task-from b J c.requires.added_value c.requires.i_lt_tasks c.run_time-blue.ensures.value c.run_time-red.ensures.value)
-  }
+      value = c.requires.k_value ∙ count-without b J c.requires.i_lt_tasks c.work-work.ensures c.if-work-eq0.true;
+      stored_2 = task-more c.requires.stored set.job_len.0 (omega arith) _ _ _ set.job_after
+          (task-from b J c.requires.added_value c.requires.i_lt_tasks c.run_time-blue.ensures.value c.run_time-red.ensures.value);
+    }
 
 pub set_file-requires : goal.set_file-requires
 set_file-requires c =
@@ -34,10 +34,10 @@ returns c =
     let J = job_of c.args.job.now in
     let h = c.requires.i_lt_tasks in
     let n = c.requires.k_value in record {
-    value = omega (arith, count-with b J h c.work-work.ensures none);
-    stored_2 = file-more
+      value = omega (arith, count-with b J h c.work-work.ensures none);
+      stored_2 = file-more
           (task-more c.requires.stored task.job_len.0 (omega arith) _ _ _ task.job_after
           (task-from b J c.requires.added_value h c.run_time-blue.ensures.value c.run_time-red.ensures.value))
           file.job_len.0 (omega arith) (omega (arith, count_less b J h c.work-work.ensures none)) _ _ _ _ file.job_after
-          (file-for b J c.requires.added_value h n c.work-work.ensures none)
-  }
+          (file-for b J c.requires.added_value h n c.work-work.ensures none);
+    }

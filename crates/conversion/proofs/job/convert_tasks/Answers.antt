@@ -1,4 +1,3 @@
-use Prim.Native.Nat.{◌-◌}
 use mathlib.Core.Path.{refl, sym, ◌∙◌}
 use native.Mathlib.Omega.{arith}
 use Rattle.model.specs.Layout.{job_of}
@@ -12,12 +11,12 @@ loop-i-init c = (omega arith, sym (sum-none _), stored_at c.requires.stored (ome
 
 pub convert_task-k-requires : goal.convert_task-k-requires
 convert_task-k-requires c = record {
-    added_value = c.requires.added_value;
-    tasks_bound = c.requires.tasks_bound;
-    i_lt_tasks = c.loop-i-test.true;
-    k_value = c.loop-i.invariant.1;
-    stored = c.loop-i.invariant.2
-  }
+  added_value = c.requires.added_value;
+  tasks_bound = c.requires.tasks_bound;
+  i_lt_tasks = c.loop-i-test.true;
+  k_value = c.loop-i.invariant.1;
+  stored = c.loop-i.invariant.2;
+}
 
 pub loop-i-preserved : goal.loop-i-preserved
 loop-i-preserved c =

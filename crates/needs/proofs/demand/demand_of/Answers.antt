@@ -1,5 +1,3 @@
-use Prim.Native.Nat.{◌-◌}
-use mathlib.Core.Bool.{true}
 use native.Mathlib.Omega.{arith}
 use Rattle.model.specs.Colours.{as_colour}
 use Rattle.model.specs.Layout.{job_of, entries_of}
@@ -23,11 +21,11 @@ loop-k-init c =
 pub with_file-demand-requires : goal.with_file-demand-requires
 with_file-demand-requires c =
     let inv = c.loop-k.invariant in record {
-    in_bounds = c.requires.in_bounds;
-    k_lt_files = omega arith;
-    demand_below = inv.3;
-    demand_bounds = inv.2
-  }
+      in_bounds = c.requires.in_bounds;
+      k_lt_files = omega arith;
+      demand_below = inv.3;
+      demand_bounds = inv.2;
+    }
 
 pub bounds-next-k : goal.bounds-next-k
 bounds-next-k c = omega (arith, c.requires.in_bounds.job.files)
@@ -52,6 +50,6 @@ pub returns : goal.returns
 returns c =
     let a = c.args in
     let inv = c.loop-k.invariant in record {
-    demand_of = demand-all a.shape (job_of a.job.now) (entries_of a.schedule.now) a.task (as_colour a.colour) inv.3 (omega arith);
-    demand_bounds = demand-within (omega (arith, c.requires.in_bounds.job.files)) inv.2
-  }
+      demand_of = demand-all a.shape (job_of a.job.now) (entries_of a.schedule.now) a.task (as_colour a.colour) inv.3 (omega arith);
+      demand_bounds = demand-within (omega (arith, c.requires.in_bounds.job.files)) inv.2;
+    }

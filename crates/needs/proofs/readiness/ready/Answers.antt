@@ -1,5 +1,4 @@
-use Prim.Native.Nat.{◌-◌}
-use mathlib.Core.Bool.{true, false, not}
+use mathlib.Core.Bool.{not}
 use mathlib.Core.Path.{ap}
 use native.Mathlib.Omega.{arith}
 use Rattle.needs.proofs.WalkLaws.{walk_first, walk-next}

@@ -1,5 +1,3 @@
-use Prim.Native.Nat.{◌-◌}
-use mathlib.Core.Bool.{true}
 use native.Mathlib.Omega.{arith}
 use Rattle.model.specs.Layout.{schedule_of}
 use Rattle.needs.proofs.WalkLaws.{walk_first, walk-next}
@@ -27,11 +25,11 @@ loop-k-init c =
 
 pub admit-requires : goal.admit-requires
 admit-requires c = record {
-    in_bounds = c.requires.in_bounds;
-    chained = c.requires.chained_2;
-    needs_bounds = c.loop-k.invariant.2;
-    task_lt_tasks = omega (arith, c.reader-reader.ensures.upper_bound)
-  }
+  in_bounds = c.requires.in_bounds;
+  chained = c.requires.chained_2;
+  needs_bounds = c.loop-k.invariant.2;
+  task_lt_tasks = omega (arith, c.reader-reader.ensures.upper_bound);
+}
 
 pub bounds-made_next-k : goal.bounds-made_next-k
 bounds-made_next-k c = omega (arith, c.requires.in_bounds.job.files)
@@ -57,6 +55,6 @@ loop-k-preserved c =
 
 pub returns : goal.returns
 returns c = record {
-    needs = renew-all c.requires.in_bounds.job (schedule_of c.args.shape c.args.schedule.now) c.args.i {n = c.loop-k.k} (omega arith) c.loop-k.invariant.3;
-    needs_bounds_2 = c.loop-k.invariant.2
-  }
+  needs = renew-all c.requires.in_bounds.job (schedule_of c.args.shape c.args.schedule.now) c.args.i {n = c.loop-k.k} (omega arith) c.loop-k.invariant.3;
+  needs_bounds_2 = c.loop-k.invariant.2;
+}

@@ -11,6 +11,6 @@ pub returns : goal.returns
 returns c =
     let a = c.args in
     let p = kept_place a.i in record {
-    needs_after = c.store-2.ensures ∙ ap (λ (l : List ℕ). set l p a.kept) c.store.ensures;
-    needs_len = search rules
-  }
+      needs_after = c.store-2.ensures ∙ ap (λ (l : List ℕ). set l p a.kept) c.store.ensures;
+      needs_len = search rules;
+    }

@@ -1,4 +1,3 @@
-use Prim.Native.Nat.{◌-◌}
 use native.Mathlib.Omega.{arith}
 use Rattle.needs.proofs.WalkLaws.{walk_first, walk-next}
 use Rattle.needs.proofs.SizeLaws.{sizes-first, sizes-next, sizes-all}
@@ -47,6 +46,6 @@ loop-k-preserved c =
 pub returns : goal.returns
 returns c =
     let a = c.args in record {
-    by_index_2 = sizes-all c.requires.job_in_bounds a.first.now a.next.now a.task {n = c.loop-k.k} (omega arith) c.loop-k.invariant.2;
-    upper_bound = omega (arith, c.requires.job_in_bounds.files)
-  }
+      by_index_2 = sizes-all c.requires.job_in_bounds a.first.now a.next.now a.task {n = c.loop-k.k} (omega arith) c.loop-k.invariant.2;
+      upper_bound = omega (arith, c.requires.job_in_bounds.files);
+    }

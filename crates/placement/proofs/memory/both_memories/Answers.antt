@@ -7,12 +7,12 @@ pub occupy-blue-requires : goal.occupy-blue-requires
 occupy-blue-requires c =
     let e = same-blue c.in-Blue.is in
     let own = pending-is (in-own c.args.shape c.args.job.now c.args.schedule.now c.args.placing c.requires.sizes_of blue e.0) c.requires.pending in record {
-    job_in_bounds = c.requires.job_in_bounds;
-    i_lt_tasks = c.requires.i_lt_tasks;
-    chained = c.requires.chained;
-    sizes_of = c.requires.sizes_of;
-    pending = own
-  }
+      job_in_bounds = c.requires.job_in_bounds;
+      i_lt_tasks = c.requires.i_lt_tasks;
+      chained = c.requires.chained;
+      sizes_of = c.requires.sizes_of;
+      pending = own;
+    }
 
 pub vacate-red-requires : goal.vacate-red-requires
 vacate-red-requires c =
@@ -23,12 +23,12 @@ pub occupy-red-requires : goal.occupy-red-requires
 occupy-red-requires c =
     let e = same-red c.in-Red.is in
     let own = pending-is (in-own c.args.shape c.args.job.now c.args.schedule.now c.args.placing c.requires.sizes_of red e.1) c.requires.pending_2 in record {
-    job_in_bounds = c.requires.job_in_bounds;
-    i_lt_tasks = c.requires.i_lt_tasks;
-    chained = c.requires.chained;
-    sizes_of = c.requires.sizes_of;
-    pending = own
-  }
+      job_in_bounds = c.requires.job_in_bounds;
+      i_lt_tasks = c.requires.i_lt_tasks;
+      chained = c.requires.chained;
+      sizes_of = c.requires.sizes_of;
+      pending = own;
+    }
 
 pub vacate-blue-requires : goal.vacate-blue-requires
 vacate-blue-requires c =
@@ -38,15 +38,15 @@ vacate-blue-requires c =
 pub returns-in-Blue : goal.returns-in-Blue
 returns-in-Blue c =
     let e = same-blue c.in-Blue.is in record {
-    made = made-is (in-own c.args.shape c.args.job.now c.args.schedule.now c.args.placing c.requires.sizes_of blue e.0)
+      made = made-is (in-own c.args.shape c.args.job.now c.args.schedule.now c.args.placing c.requires.sizes_of blue e.0)
           c.occupy-blue.ensures;
-    made_2 = made-is (in-other c.args.shape c.args.job.now c.args.schedule.now c.args.placing c.requires.sizes_of red e.1) c.vacate-red.ensures
-  }
+      made_2 = made-is (in-other c.args.shape c.args.job.now c.args.schedule.now c.args.placing c.requires.sizes_of red e.1) c.vacate-red.ensures;
+    }
 
 pub returns-in-Red : goal.returns-in-Red
 returns-in-Red c =
     let e = same-red c.in-Red.is in record {
-    made = made-is (in-other c.args.shape c.args.job.now c.args.schedule.now c.args.placing c.requires.sizes_of blue e.0) c.vacate-blue.ensures;
-    made_2 = made-is (in-own c.args.shape c.args.job.now c.args.schedule.now c.args.placing c.requires.sizes_of red e.1)
-          c.occupy-red.ensures
-  }
+      made = made-is (in-other c.args.shape c.args.job.now c.args.schedule.now c.args.placing c.requires.sizes_of blue e.0) c.vacate-blue.ensures;
+      made_2 = made-is (in-own c.args.shape c.args.job.now c.args.schedule.now c.args.placing c.requires.sizes_of red e.1)
+          c.occupy-red.ensures;
+    }

@@ -1,5 +1,3 @@
-use Prim.Native.Nat.{◌-◌}
-use mathlib.Core.Bool.{true}
 use mathlib.Core.Path.{◌≡◌}
 use native.Mathlib.Omega.{arith}
 use Rattle.model.specs.Layout.{job_of}
@@ -22,10 +20,10 @@ loop-k-init c =
 pub move_in-steps-requires : goal.move_in-steps-requires
 move_in-steps-requires c =
     let l = c.loop-k-test.true in record {
-    job_in_bounds = c.requires.job_in_bounds;
-    k_lt_files = l;
-    pending = walk-requires c.args.shape c.args.job.now c.args.schedule.now c.args.placing c.loop-k.invariant.2 l c.requires.pending
-  }
+      job_in_bounds = c.requires.job_in_bounds;
+      k_lt_files = l;
+      pending = walk-requires c.args.shape c.args.job.now c.args.schedule.now c.args.placing c.loop-k.invariant.2 l c.requires.pending;
+    }
 
 pub loop-k-smaller : goal.loop-k-smaller
 loop-k-smaller c =

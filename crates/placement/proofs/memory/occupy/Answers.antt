@@ -13,11 +13,11 @@ pub move_all_in-moved-requires : goal.move_all_in-moved-requires
 move_all_in-moved-requires c =
     let moves = occupy-moves c.args.shape c.args.job.now c.args.schedule.now c.args.placing c.requires.sizes_of c.requires.i_lt_tasks.0
     c.run_time.ensures.value c.greater-release.ensures c.requires.pending in record {
-    job_in_bounds = c.requires.job_in_bounds;
-    i_lt_tasks = c.requires.i_lt_tasks.0;
-    chained = c.requires.chained;
-    pending = moves
-  }
+      job_in_bounds = c.requires.job_in_bounds;
+      i_lt_tasks = c.requires.i_lt_tasks.0;
+      chained = c.requires.chained;
+      pending = moves;
+    }
 
 pub change_if-begun-requires : goal.change_if-begun-requires
 change_if-begun-requires c =

@@ -1,5 +1,3 @@
-use Prim.Native.Nat.{◌-◌}
-use mathlib.Core.Bool.{true}
 use native.Mathlib.Omega.{arith}
 use Rattle.model.specs.Colours.{as_colour}
 use Rattle.model.specs.Layout.{job_of}
@@ -38,7 +36,7 @@ loop-k-preserved c =
 pub returns : goal.returns
 returns c =
     let m = c.loop-k.invariant.2 c.requires.job_in_bounds in record {
-    schedule_len_2 = m.size;
-    by_index = m.runs;
-    schedule_after = moves-total c.requires.job_in_bounds c.args.schedule.now c.args.i (as_colour c.args.colour) c.args.start (omega arith) m
-  }
+      schedule_len_2 = m.size;
+      by_index = m.runs;
+      schedule_after = moves-total c.requires.job_in_bounds c.args.schedule.now c.args.i (as_colour c.args.colour) c.args.start (omega arith) m;
+    }

@@ -1,5 +1,3 @@
-use Prim.Native.Nat.{◌-◌}
-use mathlib.Core.Bool.{false}
 use native.Mathlib.Omega.{arith}
 use borrow.Author.Count.{below_more}
 use Rattle.placement.proofs.SlotLaws.{latest-free-from, chosen-first}
@@ -16,14 +14,13 @@ returns-then-is_latest_free c =
     c.is_latest_free.ensures c.if-is_latest_free.true)
 
 pub loop-p-preserved : goal.loop-p-preserved
-loop-p-preserved c =
-    (
-      omega arith,
-      c.loop-p.invariant.1,
-      c.loop-p.invariant.2,
-      below_more _ _ c.loop-p.invariant.3 (latest-free-from c.args.shape c.args.last.now c.args.colour c.args.start c.loop-p.p
-          c.last_in.ensures c.loop-p.invariant.2 c.is_latest_free.ensures c.if-is_latest_free.false),
-    )
+loop-p-preserved c = (
+  omega arith,
+  c.loop-p.invariant.1,
+  c.loop-p.invariant.2,
+  below_more _ _ c.loop-p.invariant.3 (latest-free-from c.args.shape c.args.last.now c.args.colour c.args.start c.loop-p.p
+      c.last_in.ensures c.loop-p.invariant.2 c.is_latest_free.ensures c.if-is_latest_free.false),
+)
 
 pub returns : goal.returns
 returns c =

@@ -8,20 +8,20 @@ use Rattle.placement.proofs.task.assign.Goals as goal
 
 pub set_moves-requires : goal.set_moves-requires
 set_moves-requires c = record {
-    job_in_bounds = c.requires.job_in_bounds;
-    i_lt_tasks = c.requires.i_lt_tasks.0;
-    chained = c.requires.chained;
-    schedule_len = c.requires.schedule_len.0
-  }
+  job_in_bounds = c.requires.job_in_bounds;
+  i_lt_tasks = c.requires.i_lt_tasks.0;
+  chained = c.requires.chained;
+  schedule_len = c.requires.schedule_len.0;
+}
 
 pub slot_in-slot-requires : goal.slot_in-slot-requires
 slot_in-slot-requires c =
     let J = job_of c.args.job.now in
     let L = entries_of c.args.schedule.now in record {
-    processors = c.requires.job_in_bounds.processors;
-    p_bound = chosen-exists c.args.shape c.args.last.now c.args.colour c.args.start J L c.requires.job_in_bounds.processors
-          c.requires.colour_bound (c.chosen_processor-p.ensures J L)
-  }
+      processors = c.requires.job_in_bounds.processors;
+      p_bound = chosen-exists c.args.shape c.args.last.now c.args.colour c.args.start J L c.requires.job_in_bounds.processors
+          c.requires.colour_bound (c.chosen_processor-p.ensures J L);
+    }
 
 pub overflow_add-finish : goal.overflow_add-finish
 overflow_add-finish c =
@@ -37,9 +37,9 @@ returns c =
     let run = c.set_run.ensures in
     let exists = chosen-exists c.args.shape c.args.last.now c.args.colour c.args.start J L
     c.requires.job_in_bounds.processors c.requires.colour_bound chosen in record {
-    schedule_len_2 = (run.schedule_len.1, simp length-set c.requires.schedule_len.1);
-    last_after = placed c.requires.job_in_bounds c.args.schedule.now c.args.last.now c.args.colour c.requires.i_lt_tasks.0 c.args.start c.set_moves.new.schedule
+      schedule_len_2 = (run.schedule_len.1, simp length-set c.requires.schedule_len.1);
+      last_after = placed c.requires.job_in_bounds c.args.schedule.now c.args.last.now c.args.colour c.requires.i_lt_tasks.0 c.args.start c.set_moves.new.schedule
           c.set_moves.ensures.schedule_len_2 c.set_moves.ensures.by_index
           c.chosen_processor-p.result c.requires.schedule_len.1 c.set_moves.ensures.schedule_after chosen exists c.slot_in-slot.ensures.value
-          c.run_time.ensures.value run.schedule_after
-  }
+          c.run_time.ensures.value run.schedule_after;
+    }

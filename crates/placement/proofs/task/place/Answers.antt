@@ -19,13 +19,13 @@ both_memories-held-requires c =
     let i = c.args.i in
     let x = as_colour c.args.colour in
     let t = c.args.start in record {
-    job_in_bounds = c.requires.job_in_bounds.0;
-    i_lt_tasks = (omega (arith, T.exists, task-count b (job_of c.args.job.now)), c.requires.trial.1);
-    chained = c.requires.chained;
-    sizes_of = c.requires.sizes_of;
-    pending = pending-placing I W Q c.requires.placed i x t T blue c.requires.holds_stairs;
-    pending_2 = pending-placing I W Q c.requires.placed i x t T red c.requires.holds_stairs_2
-  }
+      job_in_bounds = c.requires.job_in_bounds.0;
+      i_lt_tasks = (omega (arith, T.exists, task-count b (job_of c.args.job.now)), c.requires.trial.1);
+      chained = c.requires.chained;
+      sizes_of = c.requires.sizes_of;
+      pending = pending-placing I W Q c.requires.placed i x t T blue c.requires.holds_stairs;
+      pending_2 = pending-placing I W Q c.requires.placed i x t T red c.requires.holds_stairs_2;
+    }
 
 pub assign-requires : goal.assign-requires
 assign-requires c =
@@ -33,12 +33,12 @@ assign-requires c =
     let Q = partial_of b c.args.schedule.now c.args.last.now in
     let p = c.requires.trial in
     let st = starts aware (instance_of b c.args.job.now) Q c.args.i (as_colour c.args.colour) c.args.start p.0.earliest in record {
-    job_in_bounds = c.requires.job_in_bounds.0;
-    chained = c.requires.chained;
-    schedule_len = c.requires.schedule_len;
-    i_lt_tasks = (omega (arith, p.0.exists, task-count b (job_of c.args.job.now)), p.1);
-    colour_bound = omega (arith, st.start)
-  }
+      job_in_bounds = c.requires.job_in_bounds.0;
+      chained = c.requires.chained;
+      schedule_len = c.requires.schedule_len;
+      i_lt_tasks = (omega (arith, p.0.exists, task-count b (job_of c.args.job.now)), p.1);
+      colour_bound = omega (arith, st.start);
+    }
 
 pub returns : goal.returns
 returns c =
@@ -50,8 +50,8 @@ returns c =
     let x = as_colour c.args.colour in
     let t = c.args.start in
     let made = c.both_memories-held.ensures in record {
-    schedule_len_2 = c.assign.ensures.schedule_len_2;
-    last_after = c.assign.ensures.last_after;
-    holds_stairs_3 = holds-placed I W Q c.requires.placed i x t T blue c.requires.holds_stairs made.made;
-    holds_stairs_4 = holds-placed I W Q c.requires.placed i x t T red c.requires.holds_stairs_2 made.made_2
-  }
+      schedule_len_2 = c.assign.ensures.schedule_len_2;
+      last_after = c.assign.ensures.last_after;
+      holds_stairs_3 = holds-placed I W Q c.requires.placed i x t T blue c.requires.holds_stairs made.made;
+      holds_stairs_4 = holds-placed I W Q c.requires.placed i x t T red c.requires.holds_stairs_2 made.made_2;
+    }

@@ -1,4 +1,3 @@
-use Prim.Native.Nat.{◌-◌}
 use mathlib.Core.Path.{sym, ◌∙◌}
 use native.Mathlib.Omega.{arith}
 use lib.ListN.{get_or}
@@ -10,11 +9,10 @@ pub loop-p-init : goal.loop-p-init
 loop-p-init c = (omega arith, sym (max_none _))
 
 pub loop-p-preserved : goal.loop-p-preserved
-loop-p-preserved c =
-    (
-      omega arith,
-      omega (arith, c.greater-most.ensures, c.loop-p.invariant.1, max-next (λ q. get_or c.args.last.now q 0) c.loop-p.p),
-    )
+loop-p-preserved c = (
+  omega arith,
+  omega (arith, c.greater-most.ensures, c.loop-p.invariant.1, max-next (λ q. get_or c.args.last.now q 0) c.loop-p.p),
+)
 
 pub returns : goal.returns
 returns c =

@@ -1,4 +1,4 @@
-use Prim.Native.Nat.{ℕ, ◌-◌}
+use Prim.Native.Nat.{ℕ}
 use mathlib.Core.Path.{refl, sym, ap, ◌∙◌}
 use native.Mathlib.Omega.{arith}
 use lib.ListN.{length-replicate}
@@ -35,11 +35,11 @@ pub round-found-requires : goal.round-found-requires
 round-found-requires c =
     let a = c.args in
     let p = c.loop-placed.invariant.2 in record {
-    job_in_bounds = (job-bounds a.shape (job_of a.job.now) c.requires.well_formed.0, planning-last (as_planner a.rule) a.shape (job_of a.job.now) c.requires.well_formed.0 c.requires.well_formed.1 p);
-    kept_bounds = planning-numbers (as_planner a.rule) a.shape (job_of a.job.now) c.requires.well_formed.0 c.requires.well_formed.1 p;
-    order_bounds = c.requires.order_bounds;
-    p_value = c.requires.p_value
-  }
+      job_in_bounds = (job-bounds a.shape (job_of a.job.now) c.requires.well_formed.0, planning-last (as_planner a.rule) a.shape (job_of a.job.now) c.requires.well_formed.0 c.requires.well_formed.1 p);
+      kept_bounds = planning-numbers (as_planner a.rule) a.shape (job_of a.job.now) c.requires.well_formed.0 c.requires.well_formed.1 p;
+      order_bounds = c.requires.order_bounds;
+      p_value = c.requires.p_value;
+    }
 
 pub overflow_add-trials : goal.overflow_add-trials
 overflow_add-trials c =
@@ -55,24 +55,24 @@ pub returns-in_default : goal.returns-in_default
 returns-in_default c =
     let a = c.args in
     let p = c.loop-placed.invariant.2 in record {
-    schedule_after = planning-stuck (as_planner a.rule) a.shape (job_of a.job.now) c.requires.well_formed.0 c.requires.well_formed.1 p c.loop-placed-test.true
+      schedule_after = planning-stuck (as_planner a.rule) a.shape (job_of a.job.now) c.requires.well_formed.0 c.requires.well_formed.1 p c.loop-placed-test.true
           c.round-found.result (c.round-found.ensures.result_value _ p.kept) c.in_default.is;
-    claims = tt
-  }
+      claims = tt;
+    }
 
 pub place_task-n-requires : goal.place_task-n-requires
 place_task-n-requires c =
     let a = c.args in
     let p = c.loop-placed.invariant.2 in
     let x = chosen-bounds a.shape c.round-found.result.choice c.in-Choose.is c.round-found.ensures.choice_bounds.0 in record {
-    chained = c.requires.chained;
-    chained_2 = c.requires.chained_2;
-    kept = p.kept;
-    needs_bounds = (p.numbers, x.1);
-    trial = planning-trial (as_planner a.rule) a.shape (job_of a.job.now) c.requires.well_formed.0 c.requires.well_formed.1 p c.loop-placed-test.true
-                  c.round-found.result (c.round-found.ensures.result_value _ p.kept) c.in-Choose.is;
-    schedule_len = (c.loop-placed.invariant.0, c.loop-placed.invariant.1)
-  }
+      chained = c.requires.chained;
+      chained_2 = c.requires.chained_2;
+      kept = p.kept;
+      needs_bounds = (p.numbers, x.1);
+      trial = planning-trial (as_planner a.rule) a.shape (job_of a.job.now) c.requires.well_formed.0 c.requires.well_formed.1 p c.loop-placed-test.true
+          c.round-found.result (c.round-found.ensures.result_value _ p.kept) c.in-Choose.is;
+      schedule_len = (c.loop-placed.invariant.0, c.loop-placed.invariant.1);
+    }
 
 pub overflow_add-placed : goal.overflow_add-placed
 overflow_add-placed c =
@@ -95,15 +95,15 @@ loop-placed-preserved c =
 pub claim_from-claim-requires : goal.claim_from-claim-requires
 claim_from-claim-requires c =
     let a = c.args in record {
-    processors = (job-bounds a.shape (job_of a.job.now) c.requires.well_formed.0).processors;
-    free_within = planning-free (as_planner a.rule) a.shape (job_of a.job.now) c.requires.well_formed.0 c.requires.well_formed.1 c.loop-placed.invariant.2
-  }
+      processors = (job-bounds a.shape (job_of a.job.now) c.requires.well_formed.0).processors;
+      free_within = planning-free (as_planner a.rule) a.shape (job_of a.job.now) c.requires.well_formed.0 c.requires.well_formed.1 c.loop-placed.invariant.2;
+    }
 
 pub returns : goal.returns
 returns c =
     let a = c.args in
     let p = c.loop-placed.invariant.2 in record {
-    schedule_after = planning-done (as_planner a.rule) a.shape (job_of a.job.now) c.requires.well_formed.0 c.requires.well_formed.1 p c.loop-placed-test.false;
-    claims = c.claim_from-claim.ensures (job_of a.job.now) _ _ _ _ p.kept
-          (planning-complete (as_planner a.rule) a.shape (job_of a.job.now) c.requires.well_formed.0 c.requires.well_formed.1 p c.loop-placed-test.false)
-  }
+      schedule_after = planning-done (as_planner a.rule) a.shape (job_of a.job.now) c.requires.well_formed.0 c.requires.well_formed.1 p c.loop-placed-test.false;
+      claims = c.claim_from-claim.ensures (job_of a.job.now) _ _ _ _ p.kept
+          (planning-complete (as_planner a.rule) a.shape (job_of a.job.now) c.requires.well_formed.0 c.requires.well_formed.1 p c.loop-placed-test.false);
+    }

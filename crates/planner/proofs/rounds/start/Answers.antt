@@ -16,34 +16,34 @@ link-requires-2 c = job-bounds c.args.shape (job_of c.args.job.now) c.requires.w
 
 pub by_weight-order-requires : goal.by_weight-order-requires
 by_weight-order-requires c = record {
-    well_formed = c.requires.well_formed.0;
-    chained = c.link.ensures.chained
-  }
+  well_formed = c.requires.well_formed.0;
+  chained = c.link.ensures.chained;
+}
 
 pub start-requires : goal.start-requires
 start-requires c =
     let a = c.args in
     let J = job_of a.job.now in record {
-    in_bounds = empty-bounds a.shape J c.requires.well_formed.0 (entries_of a.schedule.now) (replicate {A = ℕ} last_length 0)
+      in_bounds = empty-bounds a.shape J c.requires.well_formed.0 (entries_of a.schedule.now) (replicate {A = ℕ} last_length 0)
           (rw c.requires.schedule_value (empty-from a.shape J schedule_length last_length));
-    chained = c.link.ensures.chained;
-    chained_2 = c.link-2.ensures.chained;
-    needs_bounds = zeros-bounds
-  }
+      chained = c.link.ensures.chained;
+      chained_2 = c.link-2.ensures.chained;
+      needs_bounds = zeros-bounds;
+    }
 
 pub rounds-requires : goal.rounds-requires
 rounds-requires c = record {
-    well_formed = c.requires.well_formed;
-    schedule_value = c.requires.schedule_value;
-    chained = c.link.ensures.chained;
-    chained_2 = c.link-2.ensures.chained;
-    order_bounds = c.by_weight-order.ensures.by_index;
-    p_value = c.by_weight-order.ensures.p_value;
-    needs = (c.start.ensures.needs, c.start.ensures.needs_bounds_2)
-  }
+  well_formed = c.requires.well_formed;
+  schedule_value = c.requires.schedule_value;
+  chained = c.link.ensures.chained;
+  chained_2 = c.link-2.ensures.chained;
+  order_bounds = c.by_weight-order.ensures.by_index;
+  p_value = c.by_weight-order.ensures.p_value;
+  needs = (c.start.ensures.needs, c.start.ensures.needs_bounds_2);
+}
 
 pub returns : goal.returns
 returns c = record {
-    schedule_after = c.rounds.ensures.schedule_after;
-    claims = c.rounds.ensures.claims
-  }
+  schedule_after = c.rounds.ensures.schedule_after;
+  claims = c.rounds.ensures.claims;
+}

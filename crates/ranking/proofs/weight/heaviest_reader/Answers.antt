@@ -1,4 +1,3 @@
-use Prim.Native.Nat.{◌-◌}
 use native.Mathlib.Omega.{arith}
 use Rattle.model.specs.Layout.{job_of}
 use Rattle.model.proofs.LayoutLaws.{job-bounds}
@@ -17,9 +16,9 @@ loop-k-init c =
 
 pub reader-d-requires : goal.reader-d-requires
 reader-d-requires c = record {
-    job_in_bounds = job-bounds _ _ c.requires.well_formed;
-    k_lt_files = c.loop-k-test.true
-  }
+  job_in_bounds = job-bounds _ _ c.requires.well_formed;
+  k_lt_files = c.loop-k-test.true;
+}
 
 pub move_time-requires : goal.move_time-requires
 move_time-requires c = omega (arith, (job-bounds _ _ c.requires.well_formed).files)

@@ -26,11 +26,11 @@ pub heaviest_reader-behind-requires : goal.heaviest_reader-behind-requires
 heaviest_reader-behind-requires c =
     let known = weights-next c.args.shape (job_of c.args.job.now) c.requires.well_formed c.loop-i-test.true
     c.loop-i.invariant.2 in record {
-    well_formed = c.requires.well_formed;
-    chained = c.requires.chained;
-    weights_from = known;
-    i_lt_tasks = omega arith
-  }
+      well_formed = c.requires.well_formed;
+      chained = c.requires.chained;
+      weights_from = known;
+      i_lt_tasks = omega arith;
+    }
 
 pub overflow_add-all : goal.overflow_add-all
 overflow_add-all c =

@@ -1,5 +1,5 @@
 -- `weights` meets its contract. The invariant: the weights of the tasks from i on are in the array.
-use Prim.Native.Nat.{◌≤◌, ◌-◌}
+use Prim.Native.Nat.{◌≤◌}
 use mathlib.Core.Path.{◌≡◌}
 use lib.ListN.{length}
 use Rattle.rules.specs.Limits.{max_tasks}

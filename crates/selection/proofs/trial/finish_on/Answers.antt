@@ -14,6 +14,6 @@ overflow_add-result c =
 pub returns : goal.returns
 returns c =
     let a = c.args in record {
-    value = finish-on-at a.shape (job_of a.job.now) c.requires.task_lt_tasks.0 a.colour a.start c.run_time.ensures.value;
-    upper_bound = omega (arith, c.requires.job_in_bounds.on_blue a.task c.requires.task_lt_tasks.0, c.requires.job_in_bounds.on_red a.task c.requires.task_lt_tasks.0, c.run_time.ensures.upper_bound)
-  }
+      value = finish-on-at a.shape (job_of a.job.now) c.requires.task_lt_tasks.0 a.colour a.start c.run_time.ensures.value;
+      upper_bound = omega (arith, c.requires.job_in_bounds.on_blue a.task c.requires.task_lt_tasks.0, c.requires.job_in_bounds.on_red a.task c.requires.task_lt_tasks.0, c.run_time.ensures.upper_bound);
+    }

@@ -18,15 +18,15 @@ latest-requires c =
 pub returns-in-Aware : goal.returns-in-Aware
 returns-in-Aware c =
     let a = c.args in record {
-    result_value = (λ I Q i x W p h d r. memory-aware I Q.schedule x a.memory i d c.in-Aware.is
+      result_value = (λ I Q i x W p h d r. memory-aware I Q.schedule x a.memory i d c.in-Aware.is
           c.both_from-found.result.third c.both_from-found.result.fourth c.latest.result r refl
           (c.both_from-found.ensures.third_value ∙ holds_read W p h (a.demand.incoming + a.room)) (c.both_from-found.ensures.fourth_value ∙ holds_read W p h a.demand.incoming) c.latest.ensures.result_value);
-    result_bound = c.latest.ensures.result_bound
-  }
+      result_bound = c.latest.ensures.result_bound;
+    }
 
 pub returns-in-Plain : goal.returns-in-Plain
 returns-in-Plain c =
     let a = c.args in record {
-    result_value = (λ I Q i x W p h d r. memory-plain I Q.schedule x a.memory i d c.in-Plain.is);
-    result_bound = omega arith
-  }
+      result_value = (λ I Q i x W p h d r. memory-plain I Q.schedule x a.memory i d c.in-Plain.is);
+      result_bound = omega arith;
+    }
