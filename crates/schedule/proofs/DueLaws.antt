@@ -3,11 +3,8 @@ use Prim.Native.Nat.{ℕ, suc, ◌-◌, ◌<◌}
 use mathlib.Core.Path.{◌≡◌, refl, sym, ap, ◌∙◌}
 use mathlib.Core.Bool.{true, false}
 use mathlib.Core.List.{List, [], ◌∷◌}
-use mathlib.Core.Logic.{⊎_elim}
 use mathlib.Core.Option.{Option}
 use native.Mathlib.Omega.{arith}
-use types.Run.{OneOf}
-use denote.Enum.Declared.{tag_of}
 use lib.ListN.{drop}
 use Rattle.rules.specs.Model.{Instance, task_count, file_count, file_at, Run, Schedule, moved}
 use Rattle.rules.specs.Validity.{Claim}
@@ -16,7 +13,7 @@ use Rattle.rules.specs.ScheduleText.{ScheduleLine, schedule_line, run_of, move_o
 use Rattle.rules.specs.ScheduleText.{read_end_by, read_end, read_claim_by, read_claim, read_moves_by, read_moves, read_runs_by, read_runs}
 use Rattle.rules.specs.ScheduleText.{with_run, with_move}
 use Rattle.rules.proofs.ReadingLaws.{wrong-right}
-use Rattle.schedule.specs.contracts.lines.Line.{the_type}
+use Rattle.model.specs.declared.claim.Claim.{Claim as Numbers}
 use Rattle.schedule.specs.declared.lines.Line.{Line as Said}
 use Rattle.schedule.specs.declared.lines.Line.TheVariants as Code
 use Rattle.schedule.specs.Lines.{as_reading, first_says}
@@ -148,26 +145,32 @@ move-passed I P k f h m ls =
 abbrev Refuses : {A : Type 0} → (ScheduleLine → Option A) → Said → Type 0
 Refuses f l = due f (as_reading l) ≡ wrong (fault_of (as_reading l))
 
-not-among : (a b c d n : ℕ) → (a ≡ n → ⊥) → (b ≡ n → ⊥) → (c ≡ n → ⊥) → (d ≡ n → ⊥) → OneOf (a ∷ b ∷ c ∷ d ∷ []) n → ⊥
-not-among a b c d n p q r s = ⊎_elim (λ e. p (sym e)) (⊎_elim (λ e. q (sym e)) (⊎_elim (λ e. r (sym e)) (λ e. s (sym e))))
+abbrev pub NoRun : Said → Type 0
+NoRun l = (j p s : ℕ) → l ≡ Code.Run j p s → ⊥
 
-pub not-run : (i : ℕ) (l : Said) → OneOf (1 ∷ 2 ∷ 3 ∷ 4 ∷ []) (tag_of the_type l) → Refuses (run_of i) l
-not-run i (Code.Run j p s) h = absurd (not-among 1 2 3 4 0 (λ e. omega arith) (λ e. omega arith) (λ e. omega arith) (λ e. omega arith) h)
+abbrev pub NoMove : Said → Type 0
+NoMove l = (k j t : ℕ) → l ≡ Code.Move k j t → ⊥
+
+abbrev pub NoClaim : Said → Type 0
+NoClaim l = (c : Numbers) → l ≡ Code.Claim c → ⊥
+
+pub not-run : (i : ℕ) (l : Said) → NoRun l → Refuses (run_of i) l
+not-run i (Code.Run j p s) h = absurd (h j p s refl)
 not-run i (Code.Move j l t) h = refl
 not-run i (Code.Claim c) h = refl
 not-run i Code.Malformed h = refl
 not-run i Code.OutOfRange h = refl
 
-pub not_move : (i j : ℕ) (l : Said) → OneOf (0 ∷ 2 ∷ 3 ∷ 4 ∷ []) (tag_of the_type l) → Refuses (move_of i j) l
+pub not_move : (i j : ℕ) (l : Said) → NoMove l → Refuses (move_of i j) l
 not_move i j (Code.Run k p s) h = refl
-not_move i j (Code.Move k l t) h = absurd (not-among 0 2 3 4 1 (λ e. omega arith) (λ e. omega arith) (λ e. omega arith) (λ e. omega arith) h)
+not_move i j (Code.Move k l t) h = absurd (h k l t refl)
 not_move i j (Code.Claim c) h = refl
 not_move i j Code.Malformed h = refl
 not_move i j Code.OutOfRange h = refl
 
-pub not-claim : (l : Said) → OneOf (0 ∷ 1 ∷ 3 ∷ 4 ∷ []) (tag_of the_type l) → Refuses claim_of l
+pub not-claim : (l : Said) → NoClaim l → Refuses claim_of l
 not-claim (Code.Run k p s) h = refl
 not-claim (Code.Move k l t) h = refl
-not-claim (Code.Claim c) h = absurd (not-among 0 1 3 4 2 (λ e. omega arith) (λ e. omega arith) (λ e. omega arith) (λ e. omega arith) h)
+not-claim (Code.Claim c) h = absurd (h c refl)
 not-claim Code.Malformed h = refl
 not-claim Code.OutOfRange h = refl

@@ -18,7 +18,6 @@ use Rattle.model.specs.Layout.{Job, Entries, instance_from, schedule_from}
 use Rattle.schedule.specs.declared.reader.Progress.{Progress}
 use Rattle.schedule.specs.declared.reader.Progress.TheVariants.{At, Refused}
 use Rattle.schedule.specs.declared.reader.ScheduleRead.{ScheduleRead as Answer}
-use Rattle.schedule.specs.declared.reader.ScheduleRead.TheVariants as Answer
 use Rattle.model.specs.declared.claim.Claim as Code
 use Rattle.model.specs.Claims.{as_claim}
 use Rattle.schedule.specs.Reading.{as_read, goes_on, InText, nothing}

@@ -2,14 +2,12 @@
 use Prim.Native.Nat.{ℕ, suc, ◌+◌, ◌-◌, ◌≤◌, ◌<◌}
 use mathlib.Core.Path.{◌≡◌, refl, sym, ap, ap₂, subst, ◌∙◌}
 use mathlib.Core.Bool.{true, false}
-use mathlib.Core.List.{List, [], ◌∷◌}
+use mathlib.Core.List.{List, []}
 use mathlib.Core.Option.{Option}
 use native.Mathlib.Nat.{sub-zero}
 use native.Mathlib.Omega.{arith}
 use native.Mathlib.Numerals.{add-one}
 use borrow.Author.Tests.{eq-eqb, ne_eqb}
-use types.Run.{OneOf}
-use denote.Enum.Declared.{tag_of}
 use lib.Dec.{eqb}
 use lib.ListN.{length, drop, length-drop, drop_of_length-le}
 use Rattle.rules.specs.Count.{list_below}
@@ -26,7 +24,6 @@ use Rattle.text.proofs.FirstLineLaws.{no_line}
 use Rattle.model.specs.declared.layout.Shape.{Shape}
 use Rattle.model.specs.Layout.{Job, Entries, entries_of, instance_from, schedule_from, JobBounds, schedule_length, with_run_at, with_move_at}
 use Rattle.model.proofs.LayoutLaws.{task-count, file-count, maker-at, reader_at}
-use Rattle.schedule.specs.contracts.lines.Line.{the_type}
 use Rattle.model.specs.declared.claim.Claim.{Claim as Numbers}
 use Rattle.schedule.specs.declared.lines.Line.{Line as Said}
 use Rattle.schedule.specs.declared.lines.Line.TheVariants as Code
@@ -36,7 +33,7 @@ use Rattle.model.specs.Claims.{as_claim}
 use Rattle.schedule.specs.Lines.{as_reading}
 use Rattle.schedule.specs.Reading.{LineAt, Told, Taken, nothing, runs_of}
 use Rattle.schedule.proofs.DueLaws.{not-run, run-refused, run-taken, file_due, not_move, move-refused, move_taken, move-passed, not-claim, claim-refused}
-use Rattle.schedule.proofs.DueLaws.{claim-taken, end_refused}
+use Rattle.schedule.proofs.DueLaws.{claim-taken, end_refused, NoRun, NoMove, NoClaim}
 use Rattle.schedule.proofs.StoreLaws.{moves_of, run-stored, move-stored}
 
 -- ---- the claim
@@ -51,7 +48,7 @@ no-line-left : (bs : List ℕ) (at : ℕ) → length bs ≤ at → lines_of (dro
 no-line-left bs at h = ap lines_of (drop_of_length-le bs h) ∙ no_line
 
 module _ {I : Instance} {bs : List ℕ} {at next : ℕ} (said : Said) (o : LineAt I bs at (as_reading said) next) (P : Schedule) (k : ℕ) where
-  pub claim-other : OneOf (0 ∷ 1 ∷ 3 ∷ 4 ∷ []) (tag_of the_type said) → (w : Fault) → w ≡ fault_of (as_reading said)
+  pub claim-other : NoClaim said → (w : Fault) → w ≡ fault_of (as_reading said)
       → refused w k ≡ read_claim I P k (lines_of (drop at bs))
   claim-other h w e = ap (λ (v : Fault). refused v k) e ∙ sym (claim-refused o P k _ (not-claim said h))
 
@@ -104,7 +101,7 @@ module _ {b : Shape} {bs schedule : List ℕ} {at i : ℕ} (q : RunsRead b bs sc
     refused-run : (w : Fault) → due (run_of (suc i)) (as_reading said) ≡ wrong w → refused w (i + 1) ≡ read_runs I (task_count I) nothing 1 (lines_of bs)
     refused-run w e = rw (add-one i) (sym (q.left J ∙ run-refused o (runs_of i (entries_of schedule)) (suc i) i in-tasks w e))
 
-    pub runs_other : OneOf (1 ∷ 2 ∷ 3 ∷ 4 ∷ []) (tag_of the_type said) → (w : Fault) → w ≡ fault_of (as_reading said)
+    pub runs_other : NoRun said → (w : Fault) → w ≡ fault_of (as_reading said)
         → refused w (i + 1) ≡ read_runs I (task_count I) nothing 1 (lines_of bs)
     runs_other g w e = ap (λ (v : Fault). refused v (i + 1)) e ∙ refused-run _ (not-run (suc i) said g)
 
@@ -141,7 +138,7 @@ module _ {I : Instance} {bs : List ℕ} {at next : ℕ} (said : Said) (o : LineA
   told : (y : Reading ℕ) → due Due (as_reading said) ≡ y → Told I bs at Due y next
   told y e = record { line = as_reading said; read = o; due = e }
 
-  pub move-other : OneOf (0 ∷ 2 ∷ 3 ∷ 4 ∷ []) (tag_of the_type said) → (w : Fault) → w ≡ fault_of (as_reading said) → Told I bs at Due (wrong w) next
+  pub move-other : NoMove said → (w : Fault) → w ≡ fault_of (as_reading said) → Told I bs at Due (wrong w) next
   move-other g w e = told (wrong w) (not_move _ _ said g ∙ ap wrong (sym e))
 
   module _ (x y t : ℕ) (e : said ≡ Code.Move x y t) where

@@ -11,7 +11,6 @@ use Rattle.model.specs.Layout.{Entries, run_from}
 use Rattle.schedule.specs.declared.reader.ScheduleRead.{ScheduleRead}
 use Rattle.schedule.specs.declared.reader.ScheduleRead.TheVariants as Answer
 use Rattle.schedule.specs.declared.reader.Progress.{Progress}
-use Rattle.schedule.specs.declared.reader.Progress.TheVariants as Progress
 use Rattle.schedule.specs.declared.reader.MoveRead.{MoveRead}
 use Rattle.schedule.specs.declared.reader.MoveRead.TheVariants as Move
 use Rattle.model.specs.Claims.{as_claim}

@@ -1,5 +1,6 @@
 // The timetable's text: its due lines read into a schedule array, and written from one.
 #![tactic(auto)]
+
 mod lines;
 mod reader;
 mod size;

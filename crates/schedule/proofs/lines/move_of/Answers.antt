@@ -4,8 +4,8 @@ use Rattle.schedule.proofs.lines.move_of.Goals as goal
 
 pub returns-then-all_three : goal.returns-then-all_three
 returns-then-all_three c =
-    in-ranges _ c.All-three.ensures c.between.ensures c.between-2.ensures c.between-3.ensures c.if-all_three.true
+    in-ranges _ c.all_three.ensures c.between.ensures c.between-2.ensures c.between-3.ensures c.if-all_three.true
 
 pub returns : goal.returns
 returns c =
-    out-of-ranges _ c.All-three.ensures c.between.ensures c.between-2.ensures c.between-3.ensures c.if-all_three.false
+    out-of-ranges _ c.all_three.ensures c.between.ensures c.between-2.ensures c.between-3.ensures c.if-all_three.false

@@ -10,22 +10,22 @@ returns-then-paper-gt-MAX_TEXT c = read-long _ _ c.if-paper-gt-MAX_TEXT.true
 pub read_runs-requires : goal.read_runs-requires
 read_runs-requires c =
     let f = c.requires in record {
-    processors = f.processors;
-    tasks_le_max_tasks = f.tasks
-  }
+      processors = f.processors;
+      tasks_le_max_tasks = f.tasks;
+    }
 
 pub read_moves-requires : goal.read_moves-requires
 read_moves-requires c = record {
-    job_in_bounds = c.requires;
-    from_in_bounds = in-text _ _ _ _ _ c.in-At.is c.read_runs.ensures.in_text
-  }
+  job_in_bounds = c.requires;
+  from_in_bounds = in-text _ _ _ _ _ c.in-At.is c.read_runs.ensures.in_text;
+}
 
 pub read_claim-requires : goal.read_claim-requires
 read_claim-requires c =
     let f = c.requires in record {
-    processors = f.processors;
-    at_in_bounds = in-text _ _ _ _ _ c.in-At-read_moves.is c.read_moves.ensures.in_text
-  }
+      processors = f.processors;
+      at_in_bounds = in-text _ _ _ _ _ c.in-At-read_moves.is c.read_moves.ensures.in_text;
+    }
 
 pub returns-in-Refused : goal.returns-in-Refused
 returns-in-Refused c =

@@ -11,6 +11,6 @@ line_size-requires c =
 pub returns : goal.returns
 returns c =
     let h = line-short claim_form (word c.ranges.span.fits (word c.ranges.blue.fits (word c.ranges.red.fits end))) in record {
-    value = c.line_size.ensures;
-    upper_bound = omega (arith, c.line_size.ensures, h)
-  }
+      value = c.line_size.ensures;
+      upper_bound = omega (arith, c.line_size.ensures, h);
+    }

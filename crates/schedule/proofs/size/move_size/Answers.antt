@@ -11,6 +11,6 @@ line_size-requires c =
 pub returns : goal.returns
 returns c =
     let h = line-short move_form (word c.ranges.i.fits (word c.ranges.j.fits (word c.ranges.start.fits end))) in record {
-    value = c.line_size.ensures;
-    upper_bound = omega (arith, c.line_size.ensures, h)
-  }
+      value = c.line_size.ensures;
+      upper_bound = omega (arith, c.line_size.ensures, h);
+    }

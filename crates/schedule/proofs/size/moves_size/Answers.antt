@@ -1,4 +1,3 @@
-use Prim.Native.Nat.{◌-◌}
 use native.Mathlib.Omega.{arith}
 use Rattle.rules.proofs.ScheduleTextLaws.{moves-none}
 use Rattle.text.proofs.SizeLaws.{counted_none, counted_next, counted_skip, counted-all}
@@ -33,6 +32,6 @@ loop-k-preserved c =
 
 pub returns : goal.returns
 returns c = record {
-    value = counted-all _ _ (moves_grow _ _) c.loop-k.invariant c.loop-k-test.false;
-    upper_bound = omega (arith, c.loop-k.invariant.bound, c.loop-k.invariant.passed, c.requires.files)
-  }
+  value = counted-all _ _ (moves_grow _ _) c.loop-k.invariant c.loop-k-test.false;
+  upper_bound = omega (arith, c.loop-k.invariant.bound, c.loop-k.invariant.passed, c.requires.files);
+}

@@ -1,4 +1,3 @@
-use Prim.Native.Nat.{◌-◌}
 use native.Mathlib.Omega.{arith}
 use Rattle.rules.proofs.ScheduleTextLaws.{runs_none}
 use Rattle.text.proofs.SizeLaws.{counted_none, counted_next, counted-all}
@@ -22,6 +21,6 @@ loop-i-preserved c =
 
 pub returns : goal.returns
 returns c = record {
-    value = counted-all _ _ (runs_grow _) c.loop-i.invariant c.loop-i-test.false;
-    upper_bound = omega (arith, c.loop-i.invariant.bound, c.loop-i.invariant.passed, c.requires)
-  }
+  value = counted-all _ _ (runs_grow _) c.loop-i.invariant c.loop-i-test.false;
+  upper_bound = omega (arith, c.loop-i.invariant.bound, c.loop-i.invariant.passed, c.requires);
+}

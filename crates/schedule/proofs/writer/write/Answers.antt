@@ -9,9 +9,9 @@ use Rattle.schedule.proofs.writer.write.Goals as goal
 pub write_runs-runs_end-requires : goal.write_runs-runs_end-requires
 write_runs-runs_end-requires c =
     let f = text-fits c.args.shape (job_of c.args.job.now) (entries_of c.args.schedule.now) (as_claim c.args.claim) _ c.requires.claim_in_bounds in record {
-    tasks_le_max_tasks = c.requires.job_in_bounds.tasks;
-    tasks_in_bounds = f.first
-  }
+      tasks_le_max_tasks = c.requires.job_in_bounds.tasks;
+      tasks_in_bounds = f.first;
+    }
 
 pub slice_bounds-write_moves-count : goal.slice_bounds-write_moves-count
 slice_bounds-write_moves-count c =
@@ -26,9 +26,9 @@ slice_bounds-write_moves-start c =
 pub write_moves-moves-requires : goal.write_moves-moves-requires
 write_moves-moves-requires c =
     let f = text-fits c.args.shape (job_of c.args.job.now) (entries_of c.args.schedule.now) (as_claim c.args.claim) _ c.requires.claim_in_bounds in record {
-    job_in_bounds = c.requires.job_in_bounds;
-    files_in_bounds = wrote-room c.write_runs-runs_end.ensures _ f.second
-  }
+      job_in_bounds = c.requires.job_in_bounds;
+      files_in_bounds = wrote-room c.write_runs-runs_end.ensures _ f.second;
+    }
 
 pub overflow_add-moves_end : goal.overflow_add-moves_end
 overflow_add-moves_end c =

@@ -1,4 +1,3 @@
-use Prim.Native.Nat.{◌-◌}
 use native.Mathlib.Omega.{arith}
 use Rattle.rules.proofs.ScheduleTextLaws.{moves-none}
 use Rattle.text.proofs.LaidLaws.{laid_none, laid-within, laid-length, laid-room, laid_next, laid-skip, laid-all}
