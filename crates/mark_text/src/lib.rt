@@ -1,5 +1,6 @@
 // A timetable marked on an instance: read, and judged if it can be.
 #![tactic(auto)]
+
 ghost use Rattle.std.specs.Prelude.{◌≡◌};
 ghost use Rattle.rules.specs.Calls.{mark_on};
 ghost use Rattle.rules.specs.Promises.{WellFormed};

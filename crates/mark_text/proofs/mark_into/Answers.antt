@@ -17,10 +17,10 @@ judge-requires c =
     let r = was_read (instance_from b J) c.args.paper.now (schedule_from b L) c.read.result
     c.read.ensures c.in-Read.is in
     let p = read-spellable b J L _ c.args.paper.now r in record {
-    well_formed = c.requires;
-    in_bounds = record { job = job-bounds b J c.requires; schedule = spelled-bounds b J L _ p };
-    placed = spelled-placed b J L _ p
-  }
+      well_formed = c.requires;
+      in_bounds = record { job = job-bounds b J c.requires; schedule = spelled-bounds b J L _ p };
+      placed = spelled-placed b J L _ p;
+    }
 
 pub returns-in-Refused : goal.returns-in-Refused
 returns-in-Refused c =
