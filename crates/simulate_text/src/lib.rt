@@ -1,5 +1,6 @@
 // A timetable simulated on an instance: read, and walked through if it can be.
 #![tactic(auto)]
+
 ghost use Rattle.std.specs.Prelude.{◌≡◌, ◌+◌, min};
 ghost use Rattle.rules.specs.Limits.{max_steps};
 ghost use Rattle.rules.specs.Promises.{WellFormed};

@@ -16,10 +16,10 @@ watch-requires c =
     let L = entries_of c.read.new.schedule in
     let w = was_read (instance_from b J) c.args.paper.now (schedule_from b L) c.read.result c.read.ensures c.in-Read.is in
     let p = read-spellable b J L _ c.args.paper.now w in record {
-    in_bounds = record { job = job-bounds b J c.requires; schedule = spelled-bounds b J L _ p };
-    placed = spelled-placed b J L _ p;
-    well_formed = c.requires
-  }
+      in_bounds = record { job = job-bounds b J c.requires; schedule = spelled-bounds b J L _ p };
+      placed = spelled-placed b J L _ p;
+      well_formed = c.requires;
+    }
 
 pub returns-in-Refused : goal.returns-in-Refused
 returns-in-Refused c =
