@@ -5,7 +5,7 @@ use mathlib.Core.Path.{◌≡◌, refl}
 use native.Mathlib.Omega.{arith}
 use borrow.Author.Tests.{lt-ltb, le-ltb}
 use Rattle.rules.specs.Limits.{max_tasks, max_files}
-use Rattle.rules.specs.Model.{Instance, task_count, file_count}
+use Rattle.rules.specs.Model.{Instance}
 use Rattle.rules.specs.Conversion.{added_count, Output, unwritten, if_convertible}
 use Rattle.rules.specs.ConversionPromises.{Convertible}
 use Rattle.rules.proofs.ConvertLaws.{OrTooMany, by41, by42, passes, or-too-many}

@@ -1,5 +1,6 @@
 // The converted sheet of an instance, and what is left of a timetable of that sheet, each written into a lent buffer.
 #![tactic(auto)]
+
 mod answer;
 mod convert;
 mod strip;

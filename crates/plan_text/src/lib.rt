@@ -1,5 +1,6 @@
 // An instance planned, and its timetable written into a lent buffer.
 #![tactic(auto)]
+
 ghost use Rattle.std.specs.Prelude.{◌≡◌};
 ghost use Rattle.rules.specs.Calls.{plan_text, written, plan_on};
 ghost use Rattle.rules.specs.Promises.{WellFormed};

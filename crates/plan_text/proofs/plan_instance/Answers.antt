@@ -8,18 +8,18 @@ use Rattle.plan_text.proofs.plan_instance.Goals as goal
 
 pub run-requires : goal.run-requires
 run-requires c = record {
-    well_formed = c.requires;
-    schedule_value = refl
-  }
+  well_formed = c.requires;
+  schedule_value = refl;
+}
 
 pub write_plan-requires : goal.write_plan-requires
 write_plan-requires c =
     let b = c.args.shape in
     let J = job_of c.args.job.now in
     let P = schedule_from b (entries_of c.run.new.schedule) in record {
-    job_in_bounds = job-bounds b J c.requires;
-    claim_value = made-claim (as_planner c.args.rule) (instance_from b J) c.args.out.now P c.run.result c.run.ensures.schedule_after c.in-Complete.is c.run.ensures.claims
-  }
+      job_in_bounds = job-bounds b J c.requires;
+      claim_value = made-claim (as_planner c.args.rule) (instance_from b J) c.args.out.now P c.run.result c.run.ensures.schedule_after c.in-Complete.is c.run.ensures.claims;
+    }
 
 pub returns-in-Stuck : goal.returns-in-Stuck
 returns-in-Stuck c =

@@ -17,9 +17,9 @@ returns-then-out-size c =
 
 pub write-end-requires : goal.write-end-requires
 write-end-requires c = record {
-    job_in_bounds = c.requires.job_in_bounds;
-    claim_in_bounds = omega (arith, c.schedule_size-size.ensures, c.if-out-size.false)
-  }
+  job_in_bounds = c.requires.job_in_bounds;
+  claim_in_bounds = omega (arith, c.schedule_size-size.ensures, c.if-out-size.false);
+}
 
 pub returns : goal.returns
 returns c =
@@ -27,5 +27,5 @@ returns c =
     let text = plan_text I (schedule_from c.args.shape (entries_of c.args.schedule.now)) in
     let claim = c.requires.claim_value in
     let size : c.schedule_size-size.result ≡ length text = rw claim at c.schedule_size-size.ensures in
-    let wrote : Wrote text c.write-end.result c.args.out.now c.write-end.new.1.1.1.1.0 = rw claim at c.write-end.ensures in
+    let wrote : Wrote text c.write-end.result c.args.out.now c.write-end.new.out = rw claim at c.write-end.ensures in
     long-enough text c.args.out.now c.args.trials size _ _ c.if-out-size.false wrote

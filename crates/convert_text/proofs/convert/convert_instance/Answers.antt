@@ -29,10 +29,10 @@ convert-requires c =
     let J = job_of c.args.job.now in
     let e = c.added-more.ensures.value in
     let k = is-converted b J _ e c.args.out.now (output (converted_text (instance_from b J)) c.args.out.now) c.refusal-number.ensures c.if-number-ne0.false in record {
-    job_in_bounds = job-bounds b J c.requires;
-    added_value = e;
-    tasks_bound = fits b J _ e k.0
-  }
+      job_in_bounds = job-bounds b J c.requires;
+      added_value = e;
+      tasks_bound = fits b J _ e k.0;
+    }
 
 pub widened-requires : goal.widened-requires
 widened-requires c =

@@ -11,9 +11,9 @@ returns-then-out-size c =
 
 pub write-end-requires : goal.write-end-requires
 write-end-requires c = record {
-    job_in_bounds = c.requires;
-    text_fits = omega (arith, c.instance_size-size.ensures, c.if-out-size.false)
-  }
+  job_in_bounds = c.requires;
+  text_fits = omega (arith, c.instance_size-size.ensures, c.if-out-size.false);
+}
 
 pub returns : goal.returns
 returns c =

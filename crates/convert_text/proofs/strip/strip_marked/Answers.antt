@@ -9,10 +9,10 @@ use Rattle.convert_text.proofs.strip.strip_marked.Goals as goal
 
 pub convert-requires : goal.convert-requires
 convert-requires c = record {
-    job_in_bounds = job-bounds c.args.shape (job_of c.args.job.now) c.requires.well_formed;
-    added_value = c.requires.more_value;
-    tasks_bound = c.requires.tasks_bound
-  }
+  job_in_bounds = job-bounds c.args.shape (job_of c.args.job.now) c.requires.well_formed;
+  added_value = c.requires.more_value;
+  tasks_bound = c.requires.tasks_bound;
+}
 
 pub mark_into-v-requires : goal.mark_into-v-requires
 mark_into-v-requires c =
@@ -28,17 +28,16 @@ returns-then-v-ne0 c =
 pub write_left-requires : goal.write_left-requires
 write_left-requires c =
     let b = c.args.shape in
-    let J = job_of c.args.job.now in (
-      c.requires.well_formed,
-      (
-        c.requires.more_value,
-        (
-          c.requires.tasks_bound,
-          left-good b _ J _ _ _ c.widened.ensures c.convert.ensures c.args.paper.now c.mark_into-v.ensures c.requires.well_formed
-              (convertible b J _ c.requires.more_value c.requires.tasks_bound) c.if-v-ne0.false,
-        ),
-      ),
-    )
+    let J = job_of c.args.job.now in
+    let good = left-good b _ J _ _ _ c.widened.ensures c.convert.ensures c.args.paper.now c.mark_into-v.ensures c.requires.well_formed
+    (convertible b J _ c.requires.more_value c.requires.tasks_bound) c.if-v-ne0.false in
+    record {
+      well_formed = c.requires.well_formed;
+      more_value = c.requires.more_value;
+      tasks_bound = c.requires.tasks_bound;
+      spellable = good.0;
+      all_on_time = good.1;
+    }
 
 pub returns : goal.returns
 returns c =

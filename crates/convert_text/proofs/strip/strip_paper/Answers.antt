@@ -33,10 +33,10 @@ strip_marked-requires c =
     let old = c.args.out.now in
     let e = c.added-more.ensures.value in
     let k = is-converted b J _ e old (strip_read I old (read_schedule (converted I) c.args.paper.now)) c.refusal-number.ensures c.if-number-ne0.false in record {
-    well_formed = c.requires;
-    more_value = e;
-    tasks_bound = fits b J _ e k.0
-  }
+      well_formed = c.requires;
+      more_value = e;
+      tasks_bound = fits b J _ e k.0;
+    }
 
 pub returns : goal.returns
 returns c =
