@@ -1,7 +1,7 @@
 -- The simulator's answer, by what was read of the board sheet.
 use Prim.Native.Nat.{ℕ}
 use mathlib.Core.List.{List}
-use mathlib.Core.Path.{◌≡◌, refl, sym, ap, ◌∙◌}
+use mathlib.Core.Path.{◌≡◌, refl, sym, ◌∙◌}
 use Rattle.rules.specs.Model.{Instance}
 use Rattle.rules.specs.Text.{in_sheet, fault_number}
 use Rattle.rules.specs.InstanceText as Sheet

@@ -5,7 +5,7 @@ use Rattle.frames.proofs.converter.convert.Goals as goal
 
 pub convert_instance-requires : goal.convert_instance-requires
 convert_instance-requires c =
-    let xs = c.read.new.1.0 in
+    let xs = c.read.new.job in
     well-formed c.args.sheet.now _ xs (read-accepted c.args.sheet.now c.read.result xs c.read.ensures _ c.in-Accepted.is)
 
 pub returns-in-Refused : goal.returns-in-Refused

@@ -6,7 +6,7 @@ use Rattle.frames.proofs.marker.mark.Goals as goal
 
 pub mark_paper-requires : goal.mark_paper-requires
 mark_paper-requires c =
-    let xs = c.read.new.1.0 in
+    let xs = c.read.new.job in
     well-formed c.args.sheet.now _ xs
     (read-accepted c.args.sheet.now c.read.result xs c.read.ensures _
     c.in-Accepted.is)

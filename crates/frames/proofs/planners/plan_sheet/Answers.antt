@@ -6,7 +6,7 @@ use Rattle.frames.proofs.planners.plan_sheet.Goals as goal
 
 pub plan_instance-requires : goal.plan_instance-requires
 plan_instance-requires c =
-    let xs = c.read.new.1.0 in
+    let xs = c.read.new.job in
     well-formed c.args.sheet.now _ xs
     (read-accepted c.args.sheet.now c.read.result xs
     c.read.ensures _ c.in-Accepted.is)
