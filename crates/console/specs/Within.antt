@@ -6,4 +6,4 @@ use Rattle.console.specs.declared.input.Input.TheVariants.{Bytes, Failed}
 
 abbrev pub Within : Input → List ℕ → Type 0
 Within (Bytes n) buffer = IsPrefixLen n buffer
-Within Failed buffer = Unit {0}
+Within (Failed e) buffer = Unit {0}

@@ -1,23 +1,45 @@
-// Messages on standard error.
+// Messages on standard error, which `err` is.
 use crate::escape::write_escaped;
-use libc::STDERR_FILENO;
+use std::io::{Cursor, Error, Result, Write};
 
-// `PROGRAM: WHAT: REASON`, right after a call that failed: errno has the reason, and a write that is made leaves it as it is.
-pub fn report<'a>(program: &'a [u8], what: &'a [u8]) {
-    if io::write_all(STDERR_FILENO, program)
-        && io::write_all(STDERR_FILENO, b": ")
-        && write_escaped(STDERR_FILENO, what)
+// `PROGRAM: WHAT: REASON`.
+pub fn report<'a>(err: &impl Print, program: &'a [u8], what: &'a [u8], error: Error) {
+    if err.write_all(program).is_ok()
+        && err.write_all(b": ").is_ok()
+        && write_escaped(err, what).is_ok()
     {
-        os::fail(b"");
+        fail(err, error);
     }
 }
 
-// `PROGRAM: argument I: REASON`, likewise.
-pub fn report_argument(program: &[u8], i: usize) {
-    if io::write_all(STDERR_FILENO, program)
-        && io::write_all(STDERR_FILENO, b": argument ")
-        && io::print_decimal(STDERR_FILENO, i as u64)
+// `PROGRAM: argument I: REASON`.
+pub fn report_argument(err: &impl Print, program: &[u8], i: usize, error: Error) {
+    if err.write_all(program).is_ok()
+        && err.write_all(b": argument ").is_ok()
+        && err.print(i).is_ok()
     {
-        os::fail(b"");
+        fail(err, error);
+    }
+}
+
+// `: REASON` and the end of the line.
+fn fail(err: &impl Print, error: Error) {
+    if err.write_all(b": ").is_ok() && print_reason(err, error).is_ok() {
+        let _ = err.write_all(b"\n");
+    }
+}
+
+// The reason in std's words, without the number that stands behind the system's own.
+fn print_reason(err: &impl Print, error: Error) -> Result<()> {
+    let mut words = [0u8; 256];
+    let mut to = Cursor::new(&mut words[..]);
+    write!(to, "{error}")?;
+    let n = (to.position() as usize).min(256);
+    let Ok(text) = str::from_utf8(&words[..n]) else {
+        return err.print(error);
+    };
+    match text.split_once(" (os error ") {
+        Some((reason, _)) => err.print(reason),
+        None => err.print(text),
     }
 }

@@ -5,6 +5,8 @@ ghost use Rattle.io.specs.Digits.{hex_digit_ascii, last_digits};
 ghost use Rattle.text.specs.Wrote.{Wrote};
 ghost use Rattle.console.specs.Escaped.{printable, escaped_byte, escaped};
 
+use std::io::Result;
+
 fn is_printable(b: u8) -> bool
     ensures { result ≡ printable b }
 {
@@ -67,23 +69,21 @@ fn escape(text: &[u8], out: &mut [u8]) -> usize
     at
 }
 
-// Writes a part of a text, escaped, to a file; returns whether all of it was written. The buffer has 4 bytes for each of 1024.
-fn write_part(fd: i32, part: &[u8]) -> bool
+// Writes a part of a text, escaped; all of it is written, or the reason returned. The buffer has 4 bytes for each of 1024.
+fn write_part(to: &impl Print, part: &[u8]) -> Result<()>
     requires { length part.now ≤ 1024 }
 {
     let mut out = io::buffer();
     let n = escape(part, &mut out);
-    io::write_all(fd, &out[..n])
+    to.write_all(&out[..n])
 }
 
-// Writes a text, escaped, to a file; stops at the first write that fails, and returns whether all of it was written.
-pub fn write_escaped(fd: i32, text: &[u8]) -> bool {
+// Writes a text, escaped, to standard output or standard error; stops at the first write that fails, and returns why it failed.
+pub fn write_escaped(to: &impl Print, text: &[u8]) -> Result<()> {
     let mut rest = text;
     while 1024 < rest.len() {
-        if !write_part(fd, &rest[..1024]) {
-            return false;
-        }
+        write_part(to, &rest[..1024])?;
         rest = &rest[1024..];
     }
-    write_part(fd, rest)
+    write_part(to, rest)
 }

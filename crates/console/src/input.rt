@@ -1,36 +1,40 @@
-// Texts read whole into a lent buffer, from a file that is open or named. A function that says so reports what failed.
+// Texts read whole into a lent buffer, from a file that is open or named. A function that says so reports what failed, on `err`, standard error.
 ghost use Rattle.console.specs.Within.{Within};
 
 use crate::errors::{report, report_argument};
+use std::env::FillError;
+use std::fs::File;
+use std::io::{Error, ErrorKind, Read, Result};
+use std::rt::{Env, Files};
 
 // What was read: so many bytes at the front of the buffer, or nothing of use, since a call failed. Fewer bytes than the buffer has are
 // the whole input; where they fill the buffer the input may go on.
 #[derive(Clone, Copy)]
 pub enum Input {
     Bytes(usize),
-    Failed,
+    Failed(Error),
 }
 
 // One read into the buffer: 0 bytes at the end of the input. A read that a signal interrupts counts as failed; the programs handle no
 // signal, so none does.
-fn read_some(fd: i32, buf: &mut [u8]) -> Input
+fn read_some(from: &mut impl Read, buf: &mut [u8]) -> Input
     ensures { Within result buf.new }
 {
-    let got = libc::read(fd, buf);
-    if got < 0 {
-        return Input::Failed;
+    match from.read(buf) {
+        Ok(n) => Input::Bytes(n),
+        Err(e) => Input::Failed(e),
     }
-    Input::Bytes(io::count(got, buf))
 }
 
 // Reads until a read finds the end of the input, the buffer is full or a read fails.
-fn read_all(fd: i32, buf: &mut [u8]) -> Input
+fn read_all(from: &mut impl Read, buf: &mut [u8]) -> Input
     ensures { Within result buf.new }
 {
     let mut n = 0;
     while n < buf.len() {
-        let Input::Bytes(more) = read_some(fd, &mut buf[n..]) else {
-            return Input::Failed;
+        let more = match read_some(from, &mut buf[n..]) {
+            Input::Bytes(more) => more,
+            Input::Failed(e) => return Input::Failed(e),
         };
         if more == 0 {
             return Input::Bytes(n);
@@ -41,49 +45,96 @@ fn read_all(fd: i32, buf: &mut [u8]) -> Input
 }
 
 // The text of an open file that messages call `name`. Reports a failure.
-pub fn read_descriptor<'a>(program: &'a [u8], name: &'a [u8], fd: i32, buf: &mut [u8]) -> Input
+pub fn read_descriptor<'a>(
+    err: &impl Print,
+    program: &'a [u8],
+    name: &'a [u8],
+    from: &mut impl Read,
+    buf: &mut [u8],
+) -> Input
     ensures { Within result buf.new }
 {
-    let input = read_all(fd, buf);
-    if let Input::Failed = input {
-        report(program, name);
+    let input = read_all(from, buf);
+    if let Input::Failed(e) = input {
+        report(err, program, name, e);
     }
     input
+}
+
+// Opens the file of that name. A name that is not UTF-8 is refused, since std opens none.
+fn open<R: Files>(rt: &R, name: &[u8]) -> Result<R::File> {
+    match str::from_utf8(name) {
+        Ok(path) => File::open(rt, path),
+        Err(_) => Err(Error::new(ErrorKind::InvalidFilename, "the name is not UTF-8")),
+    }
 }
 
 // The text of the file of that name. Reports a failure.
-pub fn read_file<'a>(program: &'a [u8], name: &'a [u8], buf: &mut [u8]) -> Input
+pub fn read_file<'a>(
+    rt: &impl Files,
+    err: &impl Print,
+    program: &'a [u8],
+    name: &'a [u8],
+    buf: &mut [u8],
+) -> Input
     ensures { Within result buf.new }
 {
-    let fd = os::open_read(name);
-    if fd < 0 {
-        report(program, name);
-        return Input::Failed;
+    match open(rt, name) {
+        Ok(mut file) => read_descriptor(err, program, name, &mut file, buf),
+        Err(e) => {
+            report(err, program, name, e);
+            Input::Failed(e)
+        }
     }
-    let input = read_descriptor(program, name, fd, buf);
-    libc::close(fd);
-    input
 }
 
+// The number of the program's arguments, its own name among them.
+pub fn argument_count(rt: &impl Env) -> usize {
+    for i in 0..usize::MAX {
+        if let Err(FillError::NotPresent) = rt.arg(i, &mut []) {
+            return i;
+        }
+    }
+    usize::MAX
+}
+
+// The system's numbers of an argument that is missing, and of a name that is too long.
+const INVALID: i32 = 22;
+
+const NAME_TOO_LONG: i32 = 36;
+
 // Argument `i` of the program. Reports a failure: one that is longer than the buffer.
-pub fn read_argument(program: &[u8], i: usize, buf: &mut [u8]) -> Input
+pub fn read_argument(
+    rt: &impl Env,
+    err: &impl Print,
+    program: &[u8],
+    i: usize,
+    buf: &mut [u8],
+) -> Input
     ensures { Within result buf.new }
 {
-    let n = os::arg(i, buf);
-    if os::errno() != 0 {
-        report_argument(program, i);
-        return Input::Failed;
-    }
-    Input::Bytes(n)
+    let error = match rt.arg(i, buf) {
+        Ok(n) => return Input::Bytes(n),
+        Err(FillError::NotPresent) => Error::from_raw_os_error(INVALID),
+        Err(FillError::TooLong) => Error::from_raw_os_error(NAME_TOO_LONG),
+    };
+    report_argument(err, program, i, error);
+    Input::Failed(error)
 }
 
 // The text of the file that argument `i` names. Reports a failure.
-pub fn read_named(program: &[u8], i: usize, buf: &mut [u8]) -> Input
+pub fn read_named(
+    rt: &(impl Env + Files),
+    err: &impl Print,
+    program: &[u8],
+    i: usize,
+    buf: &mut [u8],
+) -> Input
     ensures { Within result buf.new }
 {
     let mut path = io::buffer();
-    let Input::Bytes(n) = read_argument(program, i, &mut path) else {
-        return Input::Failed;
-    };
-    read_file(program, &path[..n], buf)
+    match read_argument(rt, err, program, i, &mut path) {
+        Input::Bytes(n) => read_file(rt, err, program, &path[..n], buf),
+        Input::Failed(e) => Input::Failed(e),
+    }
 }

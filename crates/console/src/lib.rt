@@ -1,5 +1,6 @@
 // What the programs have in common: reading texts, printing answers, and saying what failed.
 #![tactic(auto)]
+
 mod answers;
 mod converter;
 mod errors;
@@ -14,5 +15,5 @@ pub use answers::{
 pub use converter::{convert, strip};
 pub use errors::report;
 pub use escape::write_escaped;
-pub use input::{Input, read_argument, read_descriptor, read_file, read_named};
+pub use input::{Input, argument_count, read_argument, read_descriptor, read_file, read_named};
 pub use planners::{Planner, plan};

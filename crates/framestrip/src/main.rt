@@ -1,35 +1,38 @@
 // framestrip SHEET PAPER: prints what is left, for the board sheet of the file SHEET, of the timetable of the file PAPER, which is one of the
 // sheet that frameconvert prints (Order 7).
 #![tactic(auto)]
-use console::{Input, print_text, read_named, report, strip};
-use libc::STDERR_FILENO;
 
-// Prints what is left of a timetable, or the refusal. Returns whether all was written.
-fn print_stripped<'a>(sheet: &'a [u8], paper: &'a [u8]) -> bool {
+use console::{Input, argument_count, print_text, read_named, report, strip};
+use std::io::Result;
+use std::rt::{Env, Files};
+
+// Prints what is left of a timetable, or the refusal.
+fn print_stripped<'a>(rt: &impl Print, sheet: &'a [u8], paper: &'a [u8]) -> Result<()> {
     let mut out = io::large_buffer();
     let a = strip(sheet, paper, &mut out);
-    print_text(a.number, a.place, &out)
+    print_text(rt, a.number, a.place, &out)
 }
 
 // Strips the timetable of argument 2. The buffers for texts are longer than a text may be, so a file that fills one is refused as too long.
-fn strip_argument(sheet: &[u8]) {
+fn strip_argument(rt: &(impl Env + Files + Print), err: &impl Print, sheet: &[u8]) {
     let mut text = io::large_buffer();
-    let Input::Bytes(n) = read_named(b"framestrip", 2, &mut text) else {
+    let Input::Bytes(n) = read_named(rt, err, b"framestrip", 2, &mut text) else {
         return;
     };
-    if !print_stripped(sheet, &text[..n]) {
-        report(b"framestrip", b"standard output");
+    if let Err(e) = print_stripped(rt, sheet, &text[..n]) {
+        report(err, b"framestrip", b"standard output", e);
     }
 }
 
-fn main() {
-    if os::arg_count() != 3 {
-        io::write_all(STDERR_FILENO, b"usage: framestrip SHEET PAPER\n");
+fn main(rt: HostRuntime) {
+    let err = rt.stderr();
+    if argument_count(&rt) != 3 {
+        let _ = err.write_all(b"usage: framestrip SHEET PAPER\n");
         return;
     }
     let mut text = io::large_buffer();
-    let Input::Bytes(n) = read_named(b"framestrip", 1, &mut text) else {
+    let Input::Bytes(n) = read_named(&rt, &err, b"framestrip", 1, &mut text) else {
         return;
     };
-    strip_argument(&text[..n]);
+    strip_argument(&rt, &err, &text[..n]);
 }

@@ -3,16 +3,17 @@ ghost use Rattle.std.specs.Prelude.{◌≡◌, ◌+◌, ◌*◌, ◌≤◌, max,
 ghost use Rattle.rules.specs.Text.{decimal};
 ghost use Rattle.framewatch.specs.Columns.{width, most_digits};
 
-use libc::STDOUT_FILENO;
+use std::io::Result;
 
 pub const WIDTH: usize = 80;
 
-// The columns used so far, spaces behind them, and room for LF behind the last; and whether all lines before this one were written.
+// The columns used so far, spaces behind them, and room for LF behind the last; and whether all lines before this one were written, or why
+// one was not.
 #[derive(Clone, Copy)]
 pub struct Line {
     pub bytes: [u8; WIDTH + 1],
     pub used: usize,
-    pub ok: bool,
+    pub ok: Result<()>,
 }
 
 impl Line {
@@ -23,7 +24,7 @@ impl Line {
         Line {
             bytes,
             used: 0,
-            ok: true,
+            ok: Ok(()),
         }
     }
 
@@ -80,14 +81,17 @@ impl Line {
     }
 
     // Writes the line, if all before it were written; the next one is empty.
-    pub fn end(self) -> Line
+    pub fn end(self, rt: &impl Print) -> Line
         requires { self.used ≤ width }
         ensures { result.used ≡ 0 }
     {
         let n = self.used;
         let mut bytes = self.bytes;
         bytes[n] = b'\n';
-        let ok = self.ok && io::write_all(STDOUT_FILENO, &bytes[..n + 1]);
+        let ok = match self.ok {
+            Ok(()) => rt.write_all(&bytes[..n + 1]),
+            Err(e) => Err(e),
+        };
         let mut next = Line::new();
         next.ok = ok;
         next
@@ -95,7 +99,7 @@ impl Line {
 
     // With an item of a list at a column, or, where the line is past it or the item does not fit there, on a line of its own from
     // column `hang` on.
-    pub fn item(self, item: Line, column: usize, hang: usize) -> Line
+    pub fn item(self, rt: &impl Print, item: Line, column: usize, hang: usize) -> Line
         requires used_le_width { self.used ≤ width }
         requires used_bound { hang + item.used ≤ width }
         ensures { result.used ≤ width }
@@ -107,6 +111,6 @@ impl Line {
                 return self.to_column(column).text(&bytes[..n]);
             }
         }
-        self.end().to_column(hang).text(&bytes[..n])
+        self.end(rt).to_column(hang).text(&bytes[..n])
     }
 }

@@ -63,6 +63,7 @@ fn file(maker: u64, reader: u64, size: u64, moving: bool) -> Line
 // The line with file k behind it, if the memory of the colour holds it. What both memories hold is being moved, and in a step that was
 // made nothing else is: no file moves before it is made or is read before it arrives.
 fn with_file(
+    rt: &impl Print,
     line: Line,
     shape: Shape,
     job: &[u64; layout::JOB],
@@ -82,13 +83,14 @@ fn with_file(
         let reader = layout::reader(shape, job, k) + 1;
         let shown = file(maker, reader, layout::size(job, k), held == 3);
         let column = line.used + 3;
-        return line.item(shown, column, hang);
+        return line.item(rt, shown, column, hang);
     }
     line
 }
 
 // The files that the memory of the colour holds.
 fn files<'a>(
+    rt: &impl Print,
     line: Line,
     shape: Shape,
     job: &'a [u64; layout::JOB],
@@ -104,7 +106,7 @@ fn files<'a>(
     let mut row = line;
     let mut k: usize = 0;
     while k < shape.files {
-        row = with_file(row, shape, job, colour, k, contents[k], hang);
+        row = with_file(rt, row, shape, job, colour, k, contents[k], hang);
         k += 1;
     }
     row
@@ -120,6 +122,7 @@ fn limit_columns(shape: Shape) -> usize
 
 // The line with the files that the memory of the colour holds behind it: their total and the limit, aligned from colour to colour, and each file.
 pub fn show<'a>(
+    rt: &impl Print,
     line: Line,
     shape: Shape,
     job: &'a [u64; layout::JOB],
@@ -138,5 +141,5 @@ pub fn show<'a>(
         .text(b" of ")
         .right(limit, columns);
     let hang = row.used + 3;
-    files(row, shape, job, contents, colour, hang)
+    files(rt, row, shape, job, contents, colour, hang)
 }

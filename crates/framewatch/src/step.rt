@@ -30,6 +30,7 @@ fn processor(p: u64, task: u64) -> Line
 
 // What `count` processors run, those behind the first `before`: four to a line.
 fn processors(
+    rt: &impl Print,
     line: Line,
     running: &[u64; Board::ALL_PROCESSORS],
     before: usize,
@@ -43,7 +44,7 @@ fn processors(
     let mut p: usize = 0;
     while p < count {
         let cell = processor((before + p + 1) as u64, running[before + p]);
-        row = row.item(cell, ROW + CELL * (p % 4), ROW);
+        row = row.item(rt, cell, ROW + CELL * (p % 4), ROW);
         p += 1;
     }
     row
@@ -62,6 +63,7 @@ fn label(line: Line, colour: Colour) -> Line
 
 // One colour: what its processors run and what its memory holds.
 fn side(
+    rt: &impl Print,
     line: Line,
     shape: Shape,
     job: &[u64; layout::JOB],
@@ -77,13 +79,19 @@ fn side(
     let blue = shape.board.blue.processors;
     let before = by_colour(colour, 0, blue) as usize;
     let count = by_colour(colour, blue, shape.board.red.processors) as usize;
-    let runs = processors(label(line, colour), &running, before, count).end();
+    let runs = processors(rt, label(line, colour), &running, before, count).end(rt);
     let row = runs.text(b"        memory     ");
-    memory::show(row, shape, job, &contents, colour).end()
+    memory::show(rt, row, shape, job, &contents, colour).end(rt)
 }
 
 // A step: its number and tick, and what each colour does.
-pub fn show(line: Line, shape: Shape, job: &[u64; layout::JOB], state: Simulation) -> Line
+pub fn show(
+    rt: &impl Print,
+    line: Line,
+    shape: Shape,
+    job: &[u64; layout::JOB],
+    state: Simulation,
+) -> Line
     requires used_value { line.used ≡ 0 }
     requires job_in_bounds { JobInBounds shape job.now }
     ensures { result.used ≡ 0 }
@@ -93,7 +101,7 @@ pub fn show(line: Line, shape: Shape, job: &[u64; layout::JOB], state: Simulatio
         .number(state.made)
         .text(b", tick ")
         .number(state.time)
-        .end();
-    let blue = side(head, shape, job, state, Colour::Blue);
-    side(blue, shape, job, state, Colour::Red)
+        .end(rt);
+    let blue = side(rt, head, shape, job, state, Colour::Blue);
+    side(rt, blue, shape, job, state, Colour::Red)
 }

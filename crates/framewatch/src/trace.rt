@@ -11,9 +11,10 @@ use frames::{Progress, Simulation};
 use instance::InstanceRead;
 use model::layout;
 use model::layout::Shape;
+use std::io::Result;
 
-// The counts of the job, and how memory and files are shown. Returns whether it was written.
-fn print_heading(shape: Shape) -> bool
+// The counts of the job, and how memory and files are shown. Fails where it cannot be written.
+fn print_heading(rt: &impl Print, shape: Shape) -> Result<()>
     requires { (shape.tasks ≤ max_tasks) × (shape.files ≤ max_files) }
 {
     Line::new()
@@ -22,7 +23,7 @@ fn print_heading(shape: Shape) -> bool
         .text(b", files: ")
         .number(shape.files as u64)
         .text(b"; memory in blocks, each file as (maker reader) size")
-        .end()
+        .end(rt)
         .ok
 }
 
@@ -41,17 +42,17 @@ fn has_work(shape: Shape, job: &[u64; layout::JOB]) -> bool
     false
 }
 
-// That working memory is not shown, if a task has it. Returns whether it was written.
-fn print_note(shape: Shape, job: &[u64; layout::JOB]) -> bool
+// That working memory is not shown, if a task has it. Fails where it cannot be written.
+fn print_note(rt: &impl Print, shape: Shape, job: &[u64; layout::JOB]) -> Result<()>
     requires { JobInBounds shape job.now }
 {
     if has_work(shape, job) {
         return Line::new()
             .text(b"working memory is not shown, but it counts for the limits")
-            .end()
+            .end(rt)
             .ok;
     }
-    true
+    Ok(())
 }
 
 // Why a fault stops it.
@@ -68,42 +69,48 @@ fn reason(fault: u64) -> Line
     line.text(b" by 17: a memory would hold more than its limit")
 }
 
-// How it ends after so many steps. A refusal never comes here: `show` prints it before any step. Returns whether all was written.
-fn print_end(progress: Progress, made: u64) -> bool {
-    let line = Line::new().end();
+// How it ends after so many steps. A refusal never comes here: `show` prints it before any step. Fails where that cannot be written.
+fn print_end(rt: &impl Print, progress: Progress, made: u64) -> Result<()> {
+    let line = Line::new().end(rt);
     match progress {
         Progress::Refused { number, place } => line.ok,
         Progress::StepsLeft => line
             .text(b"steps made: ")
             .number(made)
             .text(b"; more are left")
-            .end()
+            .end(rt)
             .ok,
         Progress::Stopped { number, tick } => {
             let stop = line.text(b"stopped at tick ").number(tick);
             let column = stop.used;
-            stop.item(reason(number), column, 2).end().ok
+            stop.item(rt, reason(number), column, 2).end(rt).ok
         }
-        Progress::Ended { span } => line.text(b"ended: the span is ").number(span).end().ok,
+        Progress::Ended { span } => line.text(b"ended: the span is ").number(span).end(rt).ok,
     }
 }
 
-// A blank line and a step. Returns whether all was written.
-fn print_step(shape: Shape, job: &[u64; layout::JOB], state: Simulation) -> bool
+// A blank line and a step. Fails where that cannot be written.
+fn print_step(
+    rt: &impl Print,
+    shape: Shape,
+    job: &[u64; layout::JOB],
+    state: Simulation,
+) -> Result<()>
     requires { JobInBounds shape job.now }
 {
-    step::show(Line::new().end(), shape, job, state).ok
+    step::show(rt, Line::new().end(rt), shape, job, state).ok
 }
 
-// So many steps behind those of `first`, as far as there are any, and how it ends then. Returns whether all was written.
+// So many steps behind those of `first`, as far as there are any, and how it ends then. Fails where that cannot be written.
 fn print_steps<'a>(
+    rt: &impl Print,
     sheet: &'a [u8],
     paper: &'a [u8],
     shape: Shape,
     job: &'a [u64; layout::JOB],
     first: Simulation,
     steps: u64,
-) -> bool
+) -> Result<()>
     requires { JobInBounds shape job.now }
 {
     let mut made = first.made;
@@ -113,43 +120,48 @@ fn print_steps<'a>(
         let next = frames::simulate(sheet, paper, made, 1);
         progress = next.progress;
         if next.made <= made {
-            return print_end(progress, made);
+            return print_end(rt, progress, made);
         }
-        if !print_step(shape, job, next) {
-            return false;
-        }
+        print_step(rt, shape, job, next)?;
         made = next.made;
         shown += 1;
     }
-    print_end(progress, made)
+    print_end(rt, progress, made)
 }
 
-// The heading, and so many steps behind those of `first`. Returns whether all was written.
+// The heading, and so many steps behind those of `first`. Fails where that cannot be written.
 fn print_trace<'a>(
+    rt: &impl Print,
     sheet: &'a [u8],
     paper: &'a [u8],
     shape: Shape,
     job: &'a [u64; layout::JOB],
     first: Simulation,
     steps: u64,
-) -> bool
+) -> Result<()>
     requires { JobInBounds shape job.now }
 {
-    print_heading(shape)
-        && print_note(shape, job)
-        && print_steps(sheet, paper, shape, job, first, steps)
+    print_heading(rt, shape)?;
+    print_note(rt, shape, job)?;
+    print_steps(rt, sheet, paper, shape, job, first, steps)
 }
 
-// Shows so many steps of a timetable behind those made, or the refusal of a text. Returns whether all was written.
-pub fn show<'a>(sheet: &'a [u8], paper: &'a [u8], made: u64, steps: u64) -> bool {
+// Shows so many steps of a timetable behind those made, or the refusal of a text. Fails where that cannot be written.
+pub fn show<'a>(
+    rt: &impl Print,
+    sheet: &'a [u8],
+    paper: &'a [u8],
+    made: u64,
+    steps: u64,
+) -> Result<()> {
     let mut job = [0; layout::JOB];
     let InstanceRead::Accepted(shape) = instance::read(sheet, &mut job) else {
-        return print_marks(sheet, paper);
+        return print_marks(rt, sheet, paper);
     };
     let first = frames::simulate(sheet, paper, made, 0);
     let progress = first.progress;
     if let Progress::Refused { number, place } = progress {
-        return print_marks(sheet, paper);
+        return print_marks(rt, sheet, paper);
     }
-    print_trace(sheet, paper, shape, &job, first, steps)
+    print_trace(rt, sheet, paper, shape, &job, first, steps)
 }
