@@ -1,369 +1,417 @@
 // What a file costs in the four cases of its maker's and its reader's colour, blue-blue, red-red, blue-red and red-blue (Order 2).
 // The file that task 1 makes and task 2 reads has size 3 and move time 5 throughout: F 3, C 5.
 #![tactic(auto)]
+
 use console::{Planner, print_answer, print_number, print_verdict};
-use libc::STDOUT_FILENO;
 use model::colour::{Colour, move_time_between, newly_held};
+use std::io::Result;
 
 // A space and a colour.
-fn print_colour(colour: Colour) -> bool {
+fn print_colour(rt: &impl Print, colour: Colour) -> Result<()> {
     match colour {
-        Colour::Blue => io::write_all(STDOUT_FILENO, b" blue"),
-        Colour::Red => io::write_all(STDOUT_FILENO, b" red"),
+        Colour::Blue => rt.write_all(b" blue"),
+        Colour::Red => rt.write_all(b" red"),
     }
 }
 
 // The colours of maker and reader, the move time, and what the reader's colour must newly hold.
-fn print_case(maker: Colour, reader: Colour) {
-    io::write_all(STDOUT_FILENO, b"(case");
-    print_colour(maker);
-    print_colour(reader);
-    print_number(move_time_between(maker, reader, 5));
-    print_number(newly_held(maker, reader, 3));
-    io::write_all(STDOUT_FILENO, b")\n");
+fn print_case(rt: &impl Print, maker: Colour, reader: Colour) -> Result<()> {
+    rt.write_all(b"(case")?;
+    print_colour(rt, maker)?;
+    print_colour(rt, reader)?;
+    print_number(rt, move_time_between(maker, reader, 5))?;
+    print_number(rt, newly_held(maker, reader, 3))?;
+    rt.write_all(b")\n")
 }
 
 // The four cases: nothing within a colour, C and F across colours.
-fn table() {
-    io::write_all(
-        STDOUT_FILENO,
-        b"maker, reader, move time and newly held, of C 5 and F 3:\n",
-    );
-    print_case(Colour::Blue, Colour::Blue);
-    print_case(Colour::Red, Colour::Red);
-    print_case(Colour::Blue, Colour::Red);
-    print_case(Colour::Red, Colour::Blue);
+fn table(rt: &impl Print) -> Result<()> {
+    rt.write_all(b"maker, reader, move time and newly held, of C 5 and F 3:\n")?;
+    print_case(rt, Colour::Blue, Colour::Blue)?;
+    print_case(rt, Colour::Red, Colour::Red)?;
+    print_case(rt, Colour::Blue, Colour::Red)?;
+    print_case(rt, Colour::Red, Colour::Blue)
 }
 
 // Prints what is shown, and the verdict.
-fn show<'a>(what: &'a [u8], sheet: &'a [u8], paper: &'a [u8]) {
-    io::write_all(STDOUT_FILENO, what);
-    io::write_all(STDOUT_FILENO, b": ");
-    print_verdict(frames::mark(sheet, paper));
+fn show<'a>(rt: &impl Print, what: &'a [u8], sheet: &'a [u8], paper: &'a [u8]) -> Result<()> {
+    rt.write_all(what)?;
+    rt.write_all(b": ")?;
+    print_verdict(rt, frames::mark(sheet, paper))
 }
 
 // The move time is 0 within a colour: the reader may start at the maker's finish, and no tick earlier.
-fn reader_within() {
+fn reader_within(rt: &impl Print) -> Result<()> {
     let sheet = b"(board (blue 2 9) (red 2 9))\n(task 1 4 2)\n(task 2 1 6)\n(file 1 2 3 5)\n";
     show(
+        rt,
         b"blue-blue, the reader at the maker's finish",
         sheet,
         b"(run 1 1 1)\n(run 2 2 5)\n(claim 6 3 0)\n",
-    );
+    )?;
     show(
+        rt,
         b"16: blue-blue, the reader one tick earlier",
         sheet,
         b"(run 1 1 1)\n(run 2 2 4)\n(claim 5 3 0)\n",
-    );
+    )?;
     show(
+        rt,
         b"red-red, the reader at the maker's finish",
         sheet,
         b"(run 1 3 1)\n(run 2 4 3)\n(claim 9 0 3)\n",
-    );
+    )?;
     show(
+        rt,
         b"16: red-red, the reader one tick earlier",
         sheet,
         b"(run 1 3 1)\n(run 2 4 2)\n(claim 8 0 3)\n",
-    );
+    )
 }
 
 // The move time is C across colours: the move may start at the maker's finish and the reader C later, and neither a tick earlier.
-fn reader_across() {
+fn reader_across(rt: &impl Print) -> Result<()> {
     let sheet = b"(board (blue 2 9) (red 2 9))\n(task 1 4 2)\n(task 2 1 6)\n(file 1 2 3 5)\n";
     show(
+        rt,
         b"blue-red, the move at the maker's finish and the reader C later",
         sheet,
         b"(run 1 1 1)\n(run 2 3 10)\n(move 1 2 5)\n(claim 16 3 3)\n",
-    );
+    )?;
     show(
+        rt,
         b"16: blue-red, the reader one tick earlier",
         sheet,
         b"(run 1 1 1)\n(run 2 3 9)\n(move 1 2 5)\n(claim 15 3 3)\n",
-    );
+    )?;
     show(
+        rt,
         b"16: blue-red, the move one tick earlier",
         sheet,
         b"(run 1 1 1)\n(run 2 3 10)\n(move 1 2 4)\n(claim 16 3 3)\n",
-    );
+    )?;
     show(
+        rt,
         b"red-blue, the move at the maker's finish and the reader C later",
         sheet,
         b"(run 1 3 1)\n(run 2 1 8)\n(move 1 2 3)\n(claim 9 3 3)\n",
-    );
+    )?;
     show(
+        rt,
         b"16: red-blue, the reader one tick earlier",
         sheet,
         b"(run 1 3 1)\n(run 2 1 7)\n(move 1 2 3)\n(claim 8 3 3)\n",
-    );
+    )?;
     show(
+        rt,
         b"16: red-blue, the move one tick earlier",
         sheet,
         b"(run 1 3 1)\n(run 2 1 8)\n(move 1 2 2)\n(claim 9 3 3)\n",
-    );
+    )
 }
 
 // A file moves across colours only: a move line within a colour is not due, and across colours none may be left out.
-fn move_lines() {
+fn move_lines(rt: &impl Print) -> Result<()> {
     let sheet = b"(board (blue 2 9) (red 2 9))\n(task 1 4 2)\n(task 2 1 6)\n(file 1 2 3 5)\n";
     show(
+        rt,
         b"14: blue-blue, a move line",
         sheet,
         b"(run 1 1 1)\n(run 2 2 10)\n(move 1 2 5)\n(claim 11 3 0)\n",
-    );
+    )?;
     show(
+        rt,
         b"14: red-red, a move line",
         sheet,
         b"(run 1 3 1)\n(run 2 4 8)\n(move 1 2 3)\n(claim 14 0 3)\n",
-    );
+    )?;
     show(
+        rt,
         b"14: blue-red, no move line",
         sheet,
         b"(run 1 1 1)\n(run 2 3 10)\n(claim 16 3 3)\n",
-    );
+    )?;
     show(
+        rt,
         b"14: red-blue, no move line",
         sheet,
         b"(run 1 3 1)\n(run 2 1 8)\n(claim 9 3 3)\n",
-    );
+    )
 }
 
 // Nothing is newly held within a colour: the other colour's limit may be 0. The colour itself holds F from the maker's start.
-fn limits_within() {
+fn limits_within(rt: &impl Print) -> Result<()> {
     let on_blue = b"(run 1 1 1)\n(run 2 2 5)\n(claim 6 3 0)\n";
     show(
+        rt,
         b"blue-blue, blue limit F, red limit 0",
         b"(board (blue 2 3) (red 2 0))\n(task 1 4 2)\n(task 2 1 6)\n(file 1 2 3 5)\n",
         on_blue,
-    );
+    )?;
     show(
+        rt,
         b"17: blue-blue, blue limit one less, at the maker's start",
         b"(board (blue 2 2) (red 2 0))\n(task 1 4 2)\n(task 2 1 6)\n(file 1 2 3 5)\n",
         on_blue,
-    );
+    )?;
     let on_red = b"(run 1 3 1)\n(run 2 4 3)\n(claim 9 0 3)\n";
     show(
+        rt,
         b"red-red, red limit F, blue limit 0",
         b"(board (blue 2 0) (red 2 3))\n(task 1 4 2)\n(task 2 1 6)\n(file 1 2 3 5)\n",
         on_red,
-    );
+    )?;
     show(
+        rt,
         b"17: red-red, red limit one less, at the maker's start",
         b"(board (blue 2 0) (red 2 2))\n(task 1 4 2)\n(task 2 1 6)\n(file 1 2 3 5)\n",
         on_red,
-    );
+    )
 }
 
 // F is newly held across colours, from the move's start: both limits must be F.
-fn limits_across() {
+fn limits_across(rt: &impl Print) -> Result<()> {
     let to_red = b"(run 1 1 1)\n(run 2 3 10)\n(move 1 2 5)\n(claim 16 3 3)\n";
     show(
+        rt,
         b"blue-red, both limits F",
         b"(board (blue 2 3) (red 2 3))\n(task 1 4 2)\n(task 2 1 6)\n(file 1 2 3 5)\n",
         to_red,
-    );
+    )?;
     show(
+        rt,
         b"17: blue-red, blue limit one less, at the maker's start",
         b"(board (blue 2 2) (red 2 3))\n(task 1 4 2)\n(task 2 1 6)\n(file 1 2 3 5)\n",
         to_red,
-    );
+    )?;
     show(
+        rt,
         b"17: blue-red, red limit one less, at the move's start",
         b"(board (blue 2 3) (red 2 2))\n(task 1 4 2)\n(task 2 1 6)\n(file 1 2 3 5)\n",
         to_red,
-    );
+    )?;
     let to_blue = b"(run 1 3 1)\n(run 2 1 8)\n(move 1 2 3)\n(claim 9 3 3)\n";
     show(
+        rt,
         b"red-blue, both limits F",
         b"(board (blue 2 3) (red 2 3))\n(task 1 4 2)\n(task 2 1 6)\n(file 1 2 3 5)\n",
         to_blue,
-    );
+    )?;
     show(
+        rt,
         b"17: red-blue, red limit one less, at the maker's start",
         b"(board (blue 2 3) (red 2 2))\n(task 1 4 2)\n(task 2 1 6)\n(file 1 2 3 5)\n",
         to_blue,
-    );
+    )?;
     show(
+        rt,
         b"17: red-blue, blue limit one less, at the move's start",
         b"(board (blue 2 2) (red 2 3))\n(task 1 4 2)\n(task 2 1 6)\n(file 1 2 3 5)\n",
         to_blue,
-    );
+    )
 }
 
 // Another file, of size 2, that has no room beside the first: within a colour that is so until the reader's finish,
 // and in the other memory at no tick.
-fn another_file_within() {
+fn another_file_within(rt: &impl Print) -> Result<()> {
     let sheet =
         b"(board (blue 2 3) (red 2 3))\n(task 1 4 2)\n(task 2 1 6)\n(task 3 1 1)\n(task 4 1 1)\n(file 1 2 3 5)\n(file 3 4 2 7)\n";
     show(
+        rt,
         b"blue-blue, another file on blue from the reader's finish",
         sheet,
         b"(run 1 1 1)\n(run 2 2 5)\n(run 3 1 6)\n(run 4 1 7)\n(claim 8 3 0)\n",
-    );
+    )?;
     show(
+        rt,
         b"17: blue-blue, from one tick earlier",
         sheet,
         b"(run 1 1 1)\n(run 2 2 5)\n(run 3 1 5)\n(run 4 1 7)\n(claim 8 5 0)\n",
-    );
+    )?;
     show(
+        rt,
         b"blue-blue, another file on red all the time",
         sheet,
         b"(run 1 1 1)\n(run 2 2 5)\n(run 3 3 1)\n(run 4 3 5)\n(claim 6 3 2)\n",
-    );
+    )?;
     show(
+        rt,
         b"red-red, another file on red from the reader's finish",
         sheet,
         b"(run 1 3 1)\n(run 2 4 3)\n(run 3 3 9)\n(run 4 3 10)\n(claim 11 0 3)\n",
-    );
+    )?;
     show(
+        rt,
         b"17: red-red, from one tick earlier",
         sheet,
         b"(run 1 3 1)\n(run 2 4 3)\n(run 3 3 8)\n(run 4 3 10)\n(claim 11 0 5)\n",
-    );
+    )?;
     show(
+        rt,
         b"red-red, another file on blue all the time",
         sheet,
         b"(run 1 3 1)\n(run 2 4 3)\n(run 3 1 1)\n(run 4 1 8)\n(claim 9 2 3)\n",
-    );
+    )
 }
 
 // Across colours the maker's memory keeps the file until the move's end: until then the other file has no room there.
-fn another_file_at_the_maker() {
+fn another_file_at_the_maker(rt: &impl Print) -> Result<()> {
     let sheet =
         b"(board (blue 2 3) (red 2 3))\n(task 1 4 2)\n(task 2 1 6)\n(task 3 1 1)\n(task 4 1 1)\n(file 1 2 3 5)\n(file 3 4 2 7)\n";
     show(
+        rt,
         b"blue-red, another file on blue from the move's end",
         sheet,
         b"(run 1 1 1)\n(run 2 3 10)\n(run 3 1 10)\n(run 4 1 11)\n(move 1 2 5)\n(claim 16 3 3)\n",
-    );
+    )?;
     show(
+        rt,
         b"17: blue-red, from one tick earlier",
         sheet,
         b"(run 1 1 1)\n(run 2 3 10)\n(run 3 1 9)\n(run 4 1 11)\n(move 1 2 5)\n(claim 16 5 3)\n",
-    );
+    )?;
     show(
+        rt,
         b"red-blue, another file on red from the move's end",
         sheet,
         b"(run 1 3 1)\n(run 2 1 8)\n(run 3 3 8)\n(run 4 3 9)\n(move 1 2 3)\n(claim 10 3 3)\n",
-    );
+    )?;
     show(
+        rt,
         b"17: red-blue, from one tick earlier",
         sheet,
         b"(run 1 3 1)\n(run 2 1 8)\n(run 3 3 7)\n(run 4 3 9)\n(move 1 2 3)\n(claim 10 3 5)\n",
-    );
+    )
 }
 
 // Across colours the reader's memory holds the file from the move's start: from then on the other file has no room there.
-fn another_file_at_the_reader() {
+fn another_file_at_the_reader(rt: &impl Print) -> Result<()> {
     let sheet =
         b"(board (blue 2 3) (red 2 3))\n(task 1 4 2)\n(task 2 1 6)\n(task 3 1 1)\n(task 4 1 1)\n(file 1 2 3 5)\n(file 3 4 2 7)\n";
     show(
+        rt,
         b"blue-red, another file on red until the move's start",
         sheet,
         b"(run 1 1 1)\n(run 2 3 10)\n(run 3 3 3)\n(run 4 3 4)\n(move 1 2 5)\n(claim 16 3 3)\n",
-    );
+    )?;
     show(
+        rt,
         b"17: blue-red, until one tick later",
         sheet,
         b"(run 1 1 1)\n(run 2 3 10)\n(run 3 3 3)\n(run 4 3 5)\n(move 1 2 5)\n(claim 16 3 5)\n",
-    );
+    )?;
     show(
+        rt,
         b"red-blue, another file on blue until the move's start",
         sheet,
         b"(run 1 3 1)\n(run 2 1 8)\n(run 3 1 1)\n(run 4 1 2)\n(move 1 2 3)\n(claim 9 3 3)\n",
-    );
+    )?;
     show(
+        rt,
         b"17: red-blue, until one tick later",
         sheet,
         b"(run 1 3 1)\n(run 2 1 8)\n(run 3 1 1)\n(run 4 1 3)\n(move 1 2 3)\n(claim 9 5 3)\n",
-    );
+    )
 }
 
 // Prints MemHEFT's timetable of a sheet.
-fn print_plan(sheet: &[u8]) {
+fn print_plan(rt: &impl Print, sheet: &[u8]) -> Result<()> {
     let mut out = io::large_buffer();
     let a = console::plan(Planner::MemHeft, sheet, &mut out);
-    print_answer(a, &out);
+    print_answer(rt, a, &out)
 }
 
 // Prints what is shown, and the timetable.
-fn plan(what: &[u8], sheet: &[u8]) {
-    io::write_all(STDOUT_FILENO, what);
-    io::write_all(STDOUT_FILENO, b":\n");
-    print_plan(sheet);
+fn plan(rt: &impl Print, what: &[u8], sheet: &[u8]) -> Result<()> {
+    rt.write_all(what)?;
+    rt.write_all(b":\n")?;
+    print_plan(rt, sheet)
 }
 
 // The run times choose the colours. Within a colour the reader starts at the maker's finish, across colours C later, and the move C before it.
-fn planned() {
+fn planned(rt: &impl Print) -> Result<()> {
     plan(
+        rt,
         b"MemHEFT, blue-blue",
         b"(board (blue 2 9) (red 2 9))\n(task 1 2 4)\n(task 2 1 6)\n(file 1 2 3 5)\n",
-    );
+    )?;
     plan(
+        rt,
         b"MemHEFT, red-red",
         b"(board (blue 2 9) (red 2 9))\n(task 1 4 2)\n(task 2 6 1)\n(file 1 2 3 5)\n",
-    );
+    )?;
     plan(
+        rt,
         b"MemHEFT, blue-red",
         b"(board (blue 2 9) (red 2 9))\n(task 1 2 4)\n(task 2 9 1)\n(file 1 2 3 5)\n",
-    );
+    )?;
     plan(
+        rt,
         b"MemHEFT, red-blue",
         b"(board (blue 2 9) (red 2 9))\n(task 1 4 2)\n(task 2 1 9)\n(file 1 2 3 5)\n",
-    );
+    )
 }
 
 // Another file, of size 2, is on red from tick 0 until 4. Red needs F free from the move's start on: with one block less
 // than for a move at the maker's finish the move waits until tick 4, and with less than F the reader runs on blue.
-fn planned_to_red() {
+fn planned_to_red(rt: &impl Print) -> Result<()> {
     plan(
+        rt,
         b"MemHEFT, blue-red, red limit 5: F free from tick 0 on",
         b"(board (blue 2 3) (red 2 5))\n(task 1 2 4)\n(task 2 9 1)\n(task 3 9 1)\n(task 4 9 3)\n(file 1 2 3 5)\n(file 3 4 2 4)\n",
-    );
+    )?;
     plan(
+        rt,
         b"MemHEFT, blue-red, red limit 4: F free from tick 4 on",
         b"(board (blue 2 3) (red 2 4))\n(task 1 2 4)\n(task 2 9 1)\n(task 3 9 1)\n(task 4 9 3)\n(file 1 2 3 5)\n(file 3 4 2 4)\n",
-    );
+    )?;
     plan(
+        rt,
         b"MemHEFT, blue-red, red limit 3: exactly F free from tick 4 on",
         b"(board (blue 2 3) (red 2 3))\n(task 1 2 4)\n(task 2 9 1)\n(task 3 9 1)\n(task 4 9 3)\n(file 1 2 3 5)\n(file 3 4 2 4)\n",
-    );
+    )?;
     plan(
+        rt,
         b"MemHEFT, blue-blue, red limit 2: F free at no tick",
         b"(board (blue 2 3) (red 2 2))\n(task 1 2 4)\n(task 2 9 1)\n(task 3 9 1)\n(task 4 9 3)\n(file 1 2 3 5)\n(file 3 4 2 4)\n",
-    );
+    )
 }
 
 // The same with the colours exchanged.
-fn planned_to_blue() {
+fn planned_to_blue(rt: &impl Print) -> Result<()> {
     plan(
+        rt,
         b"MemHEFT, red-blue, blue limit 5: F free from tick 0 on",
         b"(board (blue 2 5) (red 2 3))\n(task 1 4 2)\n(task 2 1 9)\n(task 3 1 9)\n(task 4 3 9)\n(file 1 2 3 5)\n(file 3 4 2 4)\n",
-    );
+    )?;
     plan(
+        rt,
         b"MemHEFT, red-blue, blue limit 4: F free from tick 4 on",
         b"(board (blue 2 4) (red 2 3))\n(task 1 4 2)\n(task 2 1 9)\n(task 3 1 9)\n(task 4 3 9)\n(file 1 2 3 5)\n(file 3 4 2 4)\n",
-    );
+    )?;
     plan(
+        rt,
         b"MemHEFT, red-blue, blue limit 3: exactly F free from tick 4 on",
         b"(board (blue 2 3) (red 2 3))\n(task 1 4 2)\n(task 2 1 9)\n(task 3 1 9)\n(task 4 3 9)\n(file 1 2 3 5)\n(file 3 4 2 4)\n",
-    );
+    )?;
     plan(
+        rt,
         b"MemHEFT, red-red, blue limit 2: F free at no tick",
         b"(board (blue 2 2) (red 2 3))\n(task 1 4 2)\n(task 2 1 9)\n(task 3 1 9)\n(task 4 3 9)\n(file 1 2 3 5)\n(file 3 4 2 4)\n",
-    );
+    )
 }
 
-fn main() {
-    table();
-    reader_within();
-    reader_across();
-    move_lines();
-    limits_within();
-    limits_across();
-    another_file_within();
-    another_file_at_the_maker();
-    another_file_at_the_reader();
-    planned();
-    planned_to_red();
-    planned_to_blue();
+fn main(rt: HostRuntime) -> Result<()> {
+    table(&rt)?;
+    reader_within(&rt)?;
+    reader_across(&rt)?;
+    move_lines(&rt)?;
+    limits_within(&rt)?;
+    limits_across(&rt)?;
+    another_file_within(&rt)?;
+    another_file_at_the_maker(&rt)?;
+    another_file_at_the_reader(&rt)?;
+    planned(&rt)?;
+    planned_to_red(&rt)?;
+    planned_to_blue(&rt)
 }

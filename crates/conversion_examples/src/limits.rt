@@ -2,85 +2,97 @@
 // M tasks with W. The W of a task is its number; a file has the number of its maker for its size, and that of its reader for its move time.
 use crate::show::numbers;
 use console::{Input, convert, read_file, strip, written_text};
-use libc::STDOUT_FILENO;
+use std::io::Result;
+use std::rt::Files;
 
 // A line of a text, from 1.
-fn print_line(text: &[u8], k: u64) {
-    io::write_all(STDOUT_FILENO, text::line_at(text, k));
-    io::write_all(STDOUT_FILENO, b"\n");
+fn print_line(rt: &impl Print, text: &[u8], k: u64) -> Result<()> {
+    rt.write_all(text::line_at(text, k))?;
+    rt.write_all(b"\n")
 }
 
 // What was written for a sheet: that these are the sheet's own bytes, or four of its lines.
-fn print_lines<'a>(sheet: &'a [u8], text: &'a [u8], lines: [u64; 4]) {
+fn print_lines<'a>(
+    rt: &impl Print,
+    sheet: &'a [u8],
+    text: &'a [u8],
+    lines: [u64; 4],
+) -> Result<()> {
     if check::same(sheet, text) {
-        io::write_all(STDOUT_FILENO, b"the same bytes\n");
-        return;
+        rt.write_all(b"the same bytes\n")?;
+        return Ok(());
     }
-    print_line(text, lines[0]);
-    print_line(text, lines[1]);
-    print_line(text, lines[2]);
-    print_line(text, lines[3]);
+    print_line(rt, text, lines[0])?;
+    print_line(rt, text, lines[1])?;
+    print_line(rt, text, lines[2])?;
+    print_line(rt, text, lines[3])
 }
 
 // The converter on a sheet: number, place and four lines of what was written.
-fn show_converted<'a>(name: &'a [u8], sheet: &'a [u8], lines: [u64; 4]) {
+fn show_converted<'a>(
+    rt: &impl Print,
+    name: &'a [u8],
+    sheet: &'a [u8],
+    lines: [u64; 4],
+) -> Result<()> {
     let mut out = io::large_buffer();
     let a = convert(sheet, &mut out);
-    numbers(name, a);
+    numbers(rt, name, a)?;
     if a.number == 0 {
-        print_lines(sheet, written_text(a.number, a.place, &out), lines);
+        print_lines(rt, sheet, written_text(a.number, a.place, &out), lines)?;
     }
+    Ok(())
 }
 
 // The stripper on the same sheet and an empty timetable: 41 and 42 come first, else line 1 of the timetable is missing.
-fn show_stripped(sheet: &[u8]) {
+fn show_stripped(rt: &impl Print, sheet: &[u8]) -> Result<()> {
     let mut out = io::large_buffer();
     let a = strip(sheet, b"", &mut out);
-    numbers(b"an empty timetable", a);
+    numbers(rt, b"an empty timetable", a)
 }
 
 // Both on the sheet of a file.
-fn show(name: &[u8], lines: [u64; 4]) {
+fn show(rt: &(impl Files + Print), err: &impl Print, name: &[u8], lines: [u64; 4]) -> Result<()> {
     let mut text = io::large_buffer();
-    let Input::Bytes(n) = read_file(b"conversion_examples", name, &mut text) else {
-        return;
+    let Input::Bytes(n) = read_file(rt, err, b"conversion_examples", name, &mut text) else {
+        return Ok(());
     };
     let sheet = &text[..n];
-    show_converted(name, sheet, lines);
-    show_stripped(sheet);
+    show_converted(rt, name, sheet, lines)?;
+    show_stripped(rt, sheet)
 }
 
 // Line 1 is the board's, tasks follow, then files. Where one task has W it is the last.
-fn tasks() {
+fn tasks(rt: &(impl Files + Print), err: &impl Print) -> Result<()> {
     // 33 and 33 more are 66
-    show(b"tasks_33_w_33.sheet", [0; 4]);
+    show(rt, err, b"tasks_33_w_33.sheet", [0; 4])?;
     // 32 and 32 more are 64: the last added task, the first old one, and the first and the last of 32 added files
-    show(b"tasks_32_w_32.sheet", [33, 34, 66, 97]);
+    show(rt, err, b"tasks_32_w_32.sheet", [33, 34, 66, 97])?;
     // 64 and one more; 63 and one more: the added task, the first and the last old one, and the added file
-    show(b"tasks_64_w_1.sheet", [0; 4]);
-    show(b"tasks_63_w_1.sheet", [2, 3, 65, 66]);
+    show(rt, err, b"tasks_64_w_1.sheet", [0; 4])?;
+    show(rt, err, b"tasks_63_w_1.sheet", [2, 3, 65, 66])?;
     // 64 and none more
-    show(b"tasks_64_w_0.sheet", [0; 4]);
+    show(rt, err, b"tasks_64_w_0.sheet", [0; 4])?;
     // 66 would result, but line 35 of the sheet has a move time of 0
-    show(b"tasks_33_w_33_bad.sheet", [0; 4]);
+    show(rt, err, b"tasks_33_w_33_bad.sheet", [0; 4])
 }
 
 // Where no task or one has W there are 24 tasks, or 64 in the last sheet, and it is the last that has W; else all tasks have it.
-fn files() {
+fn files(rt: &(impl Files + Print), err: &impl Print) -> Result<()> {
     // 256 and one more; 255 and one more: the first old task, the added file, the first and the last old one
-    show(b"files_256_w_1.sheet", [0; 4]);
-    show(b"files_255_w_1.sheet", [3, 27, 28, 282]);
+    show(rt, err, b"files_256_w_1.sheet", [0; 4])?;
+    show(rt, err, b"files_255_w_1.sheet", [3, 27, 28, 282])?;
     // 256 and none more
-    show(b"files_256_w_0.sheet", [0; 4]);
+    show(rt, err, b"files_256_w_0.sheet", [0; 4])?;
     // 225 and 32 more; 224 and 32 more, with 64 tasks: the last added file, the first old one, the last one, and no line 322
-    show(b"files_225_w_32.sheet", [0; 4]);
-    show(b"files_224_w_32.sheet", [97, 98, 321, 322]);
+    show(rt, err, b"files_225_w_32.sheet", [0; 4])?;
+    show(rt, err, b"files_224_w_32.sheet", [97, 98, 321, 322])?;
     // too many tasks, 66 and 65, and too many files, 289 and 257: 41
-    show(b"files_256_w_33.sheet", [0; 4]);
-    show(b"files_256_w_1_tasks_64.sheet", [0; 4]);
+    show(rt, err, b"files_256_w_33.sheet", [0; 4])?;
+    show(rt, err, b"files_256_w_1_tasks_64.sheet", [0; 4])
 }
 
-pub fn examples() {
-    tasks();
-    files();
+pub fn examples(rt: &(impl Files + Print), err: &impl Print) -> Result<()> {
+    tasks(rt, err)?;
+    files(rt, err)
 }

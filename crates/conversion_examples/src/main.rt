@@ -1,5 +1,6 @@
 // The converter and the stripper (Order 7): sheets converted, timetables of converted sheets stripped, and each refusal.
 #![tactic(auto)]
+
 mod limits;
 mod papers;
 mod plans;
@@ -7,10 +8,12 @@ mod refusals;
 mod sheets;
 mod show;
 
-fn main() {
-    sheets::examples();
-    limits::examples();
-    plans::examples();
-    papers::examples();
-    refusals::examples();
+use std::io::Result;
+
+fn main(rt: HostRuntime) -> Result<()> {
+    sheets::examples(&rt)?;
+    limits::examples(&rt, &rt.stderr())?;
+    plans::examples(&rt)?;
+    papers::examples(&rt)?;
+    refusals::examples(&rt)
 }

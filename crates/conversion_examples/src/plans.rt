@@ -1,55 +1,82 @@
 // Planners on converted sheets: each plan is marked on the converted sheet, stripped, and what is left is marked for the original.
 use crate::show::stripped;
 use console::{Planner, convert, plan, print_answer, print_numbers, print_plan_mark, written_text};
+use std::io::Result;
 
 // One planner on a sheet: its answer, and how its timetable is marked.
-fn show_plan<'a>(what: &'a [u8], label: &'a [u8], planner: Planner, sheet: &'a [u8]) {
+fn show_plan<'a>(
+    rt: &impl Print,
+    what: &'a [u8],
+    label: &'a [u8],
+    planner: Planner,
+    sheet: &'a [u8],
+) -> Result<()> {
     let mut out = io::large_buffer();
     let a = plan(planner, sheet, &mut out);
-    print_numbers(what, label, a);
-    print_answer(a, &out);
-    print_plan_mark(sheet, a, &out);
+    print_numbers(rt, what, label, a)?;
+    print_answer(rt, a, &out)?;
+    print_plan_mark(rt, sheet, a, &out)
 }
 
 // One planner on a converted sheet, and what is left of its timetable for the original; nothing where there is no timetable.
-fn show_planner<'a>(label: &'a [u8], planner: Planner, sheet: &'a [u8], wide: &'a [u8]) {
+fn show_planner<'a>(
+    rt: &impl Print,
+    label: &'a [u8],
+    planner: Planner,
+    sheet: &'a [u8],
+    wide: &'a [u8],
+) -> Result<()> {
     let mut out = io::large_buffer();
     let a = plan(planner, wide, &mut out);
-    print_numbers(b"converted", label, a);
-    print_answer(a, &out);
-    print_plan_mark(wide, a, &out);
+    print_numbers(rt, b"converted", label, a)?;
+    print_answer(rt, a, &out)?;
+    print_plan_mark(rt, wide, a, &out)?;
     if a.number == 0 {
-        stripped(b"stripped", sheet, written_text(a.number, a.place, &out));
+        stripped(
+            rt,
+            b"stripped",
+            sheet,
+            written_text(a.number, a.place, &out),
+        )?;
     }
+    Ok(())
 }
 
 // A planner on a sheet, then all four on the converted one.
-fn show<'a>(what: &'a [u8], label: &'a [u8], planner: Planner, sheet: &'a [u8]) {
-    show_plan(what, label, planner, sheet);
+fn show<'a>(
+    rt: &impl Print,
+    what: &'a [u8],
+    label: &'a [u8],
+    planner: Planner,
+    sheet: &'a [u8],
+) -> Result<()> {
+    show_plan(rt, what, label, planner, sheet)?;
     let mut out = io::large_buffer();
     let a = convert(sheet, &mut out);
     let wide = written_text(a.number, a.place, &out);
-    show_planner(b", MemHEFT:", Planner::MemHeft, sheet, wide);
-    show_planner(b", MemMinMin:", Planner::MemMinMin, sheet, wide);
-    show_planner(b", HEFT:", Planner::Heft, sheet, wide);
-    show_planner(b", MINMIN:", Planner::MinMin, sheet, wide);
+    show_planner(rt, b", MemHEFT:", Planner::MemHeft, sheet, wide)?;
+    show_planner(rt, b", MemMinMin:", Planner::MemMinMin, sheet, wide)?;
+    show_planner(rt, b", HEFT:", Planner::Heft, sheet, wide)?;
+    show_planner(rt, b", MINMIN:", Planner::MinMin, sheet, wide)
 }
 
-pub fn examples() {
+pub fn examples(rt: &impl Print) -> Result<()> {
     // The added tasks 1 and 2 go to blue, where they finish as early as on red; so a file moves before task 3, the old task 1, starts on red at 1, and the
     // span is 9, while it is 8 on the sheet itself. Blue holds the file of task 2 from 0 on, so its peak is 6; when stripped it is 5.
     show(
+        rt,
         b"the course example, W for its first and its last task",
         b", MemHEFT:",
         Planner::MemHeft,
         b"(board (blue 1 6) (red 1 6))\n(task 1 4 2 1)\n(task 2 3 5)\n(task 3 2 6 1)\n(file 1 2 2 1)\n(file 1 3 3 2)\n",
-    );
+    )?;
     // MemMinMin places both added tasks first, since they finish at 0; their files fill blue memory and it is stuck, as it is not on the sheet itself.
     // MemHEFT places the added task 2 behind task 3. HEFT puts it on red, which has no memory, and MINMIN both on blue, 9 blocks: over a limit at 0.
     show(
+        rt,
         b"W of 3 and 3, a file of 3, 6 blocks",
         b", MemMinMin:",
         Planner::MemMinMin,
         b"(board (blue 1 6) (red 1 0))\n(task 1 2 2 3)\n(task 2 2 2 3)\n(file 1 2 3 1)\n",
-    );
+    )
 }

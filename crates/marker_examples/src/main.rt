@@ -1,201 +1,233 @@
 // Timetables marked: examples e to m of document 01, papers that neither MemHEFT nor MemMinMin would make, each refusal, and peaks by changes.
 #![tactic(auto)]
+
 mod changes;
 
 use changes::by_changes;
 use console::print_number;
-use libc::STDOUT_FILENO;
+use std::io::Result;
 
 // Prints what is shown, the verdict, and the line at fault.
-pub fn show<'a>(what: &'a [u8], sheet: &'a [u8], paper: &'a [u8]) {
+pub fn show<'a>(rt: &impl Print, what: &'a [u8], sheet: &'a [u8], paper: &'a [u8]) -> Result<()> {
     let v = frames::mark(sheet, paper);
-    io::write_all(STDOUT_FILENO, what);
-    io::write_all(STDOUT_FILENO, b":");
-    print_number(v.number);
-    print_number(v.place);
-    print_number(v.span);
-    print_number(v.blue_peak);
-    print_number(v.red_peak);
-    io::write_all(STDOUT_FILENO, b" [");
-    io::write_all(STDOUT_FILENO, frames::fault_line(sheet, paper));
-    io::write_all(STDOUT_FILENO, b"]\n");
+    rt.write_all(what)?;
+    rt.write_all(b":")?;
+    print_number(rt, v.number)?;
+    print_number(rt, v.place)?;
+    print_number(rt, v.span)?;
+    print_number(rt, v.blue_peak)?;
+    print_number(rt, v.red_peak)?;
+    rt.write_all(b" [")?;
+    rt.write_all(frames::fault_line(sheet, paper))?;
+    rt.write_all(b"]\n")
 }
 
 // Document 01's own.
-fn examples() {
+fn examples(rt: &impl Print) -> Result<()> {
     show(
+        rt,
         b"a: the course example",
         b"(board (blue 1 6) (red 1 6))\n(task 1 4 2)\n(task 2 3 5)\n(task 3 2 6)\n(file 1 2 2 1)\n(file 1 3 3 2)\n",
         b"(run 1 2 0)\n(run 2 1 3)\n(run 3 1 6)\n(move 1 2 2)\n(move 1 3 4)\n(claim 8 5 5)\n",
-    );
+    )?;
     show(
+        rt,
         b"e: blue limit 5",
         b"(board (blue 1 5) (red 1 6))\n(task 1 4 2)\n(task 2 3 5)\n(task 3 2 6)\n(file 1 2 2 1)\n(file 1 3 3 2)\n",
         b"(run 1 2 0)\n(run 2 1 3)\n(run 3 1 6)\n(move 1 2 2)\n(move 1 3 4)\n(claim 8 5 5)\n",
-    );
+    )?;
     show(
+        rt,
         b"f: blue limit 4",
         b"(board (blue 1 4) (red 1 6))\n(task 1 4 2)\n(task 2 3 5)\n(task 3 2 6)\n(file 1 2 2 1)\n(file 1 3 3 2)\n",
         b"(run 1 2 0)\n(run 2 1 3)\n(run 3 1 6)\n(move 1 2 2)\n(move 1 3 4)\n(claim 8 5 5)\n",
-    );
+    )?;
     show(
+        rt,
         b"g: the second move earlier",
         b"(board (blue 1 6) (red 1 6))\n(task 1 4 2)\n(task 2 3 5)\n(task 3 2 6)\n(file 1 2 2 1)\n(file 1 3 3 2)\n",
         b"(run 1 2 0)\n(run 2 1 3)\n(run 3 1 6)\n(move 1 2 2)\n(move 1 3 3)\n(claim 8 5 5)\n",
-    );
+    )?;
     show(
+        rt,
         b"h: a move before its file is made",
         b"(board (blue 1 6) (red 1 6))\n(task 1 4 2)\n(task 2 3 5)\n(task 3 2 6)\n(file 1 2 2 1)\n(file 1 3 3 2)\n",
         b"(run 1 2 0)\n(run 2 1 3)\n(run 3 1 6)\n(move 1 2 1)\n(move 1 3 4)\n(claim 8 5 5)\n",
-    );
+    )?;
     show(
+        rt,
         b"i: two runs share an instant, and an early start",
         b"(board (blue 1 6) (red 1 6))\n(task 1 4 2)\n(task 2 3 5)\n(task 3 2 6)\n(file 1 2 2 1)\n(file 1 3 3 2)\n",
         b"(run 1 2 0)\n(run 2 1 3)\n(run 3 1 5)\n(move 1 2 2)\n(move 1 3 4)\n(claim 8 5 5)\n",
-    );
+    )?;
     show(
+        rt,
         b"j: the claim untrue",
         b"(board (blue 1 6) (red 1 6))\n(task 1 4 2)\n(task 2 3 5)\n(task 3 2 6)\n(file 1 2 2 1)\n(file 1 3 3 2)\n",
         b"(run 1 2 0)\n(run 2 1 3)\n(run 3 1 6)\n(move 1 2 2)\n(move 1 3 4)\n(claim 9 5 5)\n",
-    );
+    )?;
     show(
+        rt,
         b"k: a move left out",
         b"(board (blue 1 6) (red 1 6))\n(task 1 4 2)\n(task 2 3 5)\n(task 3 2 6)\n(file 1 2 2 1)\n(file 1 3 3 2)\n",
         b"(run 1 2 0)\n(run 2 1 3)\n(run 3 1 6)\n(move 1 3 4)\n(claim 8 5 5)\n",
-    );
+    )?;
     show(
+        rt,
         b"l: a leading zero",
         b"(board (blue 1 6) (red 1 6))\n(task 1 4 2)\n(task 2 3 5)\n(task 3 2 6)\n(file 1 2 2 1)\n(file 1 3 3 2)\n",
         b"(run 1 2 0)\n(run 2 01 3)\n(run 3 1 6)\n(move 1 2 2)\n(move 1 3 4)\n(claim 8 5 5)\n",
-    );
+    )?;
     show(
+        rt,
         b"m: the board line alone",
         b"(board (blue 1 6) (red 1 6))\n",
         b"(run 1 2 0)\n(run 2 1 3)\n(run 3 1 6)\n(move 1 2 2)\n(move 1 3 4)\n(claim 8 5 5)\n",
-    );
+    )
 }
 
 // Valid, though neither MemHEFT nor MemMinMin would make them.
-fn unusual() {
+fn unusual(rt: &impl Print) -> Result<()> {
     show(
+        rt,
         b"idle gaps",
         b"(board (blue 1 6) (red 1 6))\n(task 1 4 2)\n(task 2 3 5)\n(task 3 2 6)\n(file 1 2 2 1)\n(file 1 3 3 2)\n",
         b"(run 1 2 3)\n(run 2 1 9)\n(run 3 1 20)\n(move 1 2 6)\n(move 1 3 12)\n(claim 22 3 5)\n",
-    );
+    )?;
     show(
+        rt,
         b"moves as early as they may be",
         b"(board (blue 1 6) (red 1 6))\n(task 1 4 2)\n(task 2 3 5)\n(task 3 2 6)\n(file 1 2 2 1)\n(file 1 3 3 2)\n",
         b"(run 1 2 0)\n(run 2 1 3)\n(run 3 1 6)\n(move 1 2 2)\n(move 1 3 2)\n(claim 8 5 5)\n",
-    );
+    )?;
     show(
+        rt,
         b"all on one colour",
         b"(board (blue 1 6) (red 1 6))\n(task 1 4 2)\n(task 2 3 5)\n(task 3 2 6)\n(file 1 2 2 1)\n(file 1 3 3 2)\n",
         b"(run 1 1 0)\n(run 2 1 4)\n(run 3 1 7)\n(claim 9 5 0)\n",
-    );
+    )?;
     show(
+        rt,
         b"a worse processor",
         b"(board (blue 3 9) (red 1 9))\n(task 1 5 9)\n(task 2 5 9)\n(file 1 2 1 1)\n",
         b"(run 1 3 0)\n(run 2 2 5)\n(claim 10 1 0)\n",
-    );
+    )
 }
 
 // Faults of the texts.
-fn text_faults() {
+fn text_faults(rt: &impl Print) -> Result<()> {
     show(
+        rt,
         b"2 before the timetable's faults",
         b"(board (blue 1 6) (red 1 6))\n(task 1 4 2)\n(task 2 3 5",
         b"(run",
-    );
+    )?;
     show(
+        rt,
         b"3: nine processors",
         b"(board (blue 9 6) (red 1 6))\n(task 1 4 2)\n",
         b"(run 1 1 0)\n(claim 4 0 0)\n",
-    );
+    )?;
     show(
+        rt,
         b"4: a gap in the task numbers",
         b"(board (blue 1 6) (red 1 6))\n(task 1 4 2)\n(task 3 4 2)\n",
         b"(run 1 1 0)\n(claim 4 0 0)\n",
-    );
+    )?;
     show(
+        rt,
         b"12: the last LF is missing",
         b"(board (blue 1 6) (red 1 6))\n(task 1 4 2)\n(task 2 3 5)\n(task 3 2 6)\n(file 1 2 2 1)\n(file 1 3 3 2)\n",
         b"(run 1 2 0)\n(run 2 1 3)\n(run 3 1 6)\n(move 1 2 2)\n(move 1 3 4)\n(claim 8 5 5)",
-    );
+    )?;
     show(
+        rt,
         b"12: the text ends before the claim",
         b"(board (blue 1 6) (red 1 6))\n(task 1 4 2)\n(task 2 3 5)\n(task 3 2 6)\n(file 1 2 2 1)\n(file 1 3 3 2)\n",
         b"(run 1 2 0)\n(run 2 1 3)\n(run 3 1 6)\n(move 1 2 2)\n(move 1 3 4)\n",
-    );
+    )?;
     show(
+        rt,
         b"12: an empty line behind the claim",
         b"(board (blue 1 6) (red 1 6))\n(task 1 4 2)\n(task 2 3 5)\n(task 3 2 6)\n(file 1 2 2 1)\n(file 1 3 3 2)\n",
         b"(run 1 2 0)\n(run 2 1 3)\n(run 3 1 6)\n(move 1 2 2)\n(move 1 3 4)\n(claim 8 5 5)\n\n",
-    );
+    )?;
     show(
+        rt,
         b"13: no such processor",
         b"(board (blue 1 6) (red 1 6))\n(task 1 4 2)\n(task 2 3 5)\n(task 3 2 6)\n(file 1 2 2 1)\n(file 1 3 3 2)\n",
         b"(run 1 2 0)\n(run 2 3 3)\n(run 3 1 6)\n(move 1 2 2)\n(move 1 3 4)\n(claim 8 5 5)\n",
-    );
+    )?;
     show(
+        rt,
         b"13 behind the claim, where 14 applies too",
         b"(board (blue 1 6) (red 1 6))\n(task 1 4 2)\n(task 2 3 5)\n(task 3 2 6)\n(file 1 2 2 1)\n(file 1 3 3 2)\n",
         b"(run 1 2 0)\n(run 2 1 3)\n(run 3 1 6)\n(move 1 2 2)\n(move 1 3 4)\n(claim 8 5 5)\n(run 1 9 0)\n",
-    );
+    )?;
     show(
+        rt,
         b"14: a line behind the claim",
         b"(board (blue 1 6) (red 1 6))\n(task 1 4 2)\n(task 2 3 5)\n(task 3 2 6)\n(file 1 2 2 1)\n(file 1 3 3 2)\n",
         b"(run 1 2 0)\n(run 2 1 3)\n(run 3 1 6)\n(move 1 2 2)\n(move 1 3 4)\n(claim 8 5 5)\n(claim 8 5 5)\n",
-    );
+    )?;
     show(
+        rt,
         b"14: runs out of order",
         b"(board (blue 1 6) (red 1 6))\n(task 1 4 2)\n(task 2 3 5)\n(task 3 2 6)\n(file 1 2 2 1)\n(file 1 3 3 2)\n",
         b"(run 2 1 3)\n(run 1 2 0)\n(run 3 1 6)\n(move 1 2 2)\n(move 1 3 4)\n(claim 8 5 5)\n",
-    );
+    )?;
     show(
+        rt,
         b"14: a move of a file that does not move",
         b"(board (blue 1 6) (red 1 6))\n(task 1 4 2)\n(task 2 3 5)\n(task 3 2 6)\n(file 1 2 2 1)\n(file 1 3 3 2)\n",
         b"(run 1 1 0)\n(run 2 1 4)\n(run 3 1 7)\n(move 1 2 4)\n(claim 9 5 0)\n",
-    );
+    )
 }
 
 // Faults of the schedule; where several apply, the printed order decides.
-fn order_of_refusals() {
+fn order_of_refusals(rt: &impl Print) -> Result<()> {
     show(
+        rt,
         b"15 before 16 and 17 and 18",
         b"(board (blue 1 1) (red 1 1))\n(task 1 4 2)\n(task 2 3 5)\n(task 3 2 6)\n(file 1 2 2 1)\n(file 1 3 3 2)\n",
         b"(run 1 2 0)\n(run 2 2 0)\n(run 3 1 0)\n(move 1 3 0)\n(claim 1 1 1)\n",
-    );
+    )?;
     show(
+        rt,
         b"16 before 17 and 18",
         b"(board (blue 1 1) (red 1 1))\n(task 1 4 2)\n(task 2 3 5)\n(task 3 2 6)\n(file 1 2 2 1)\n(file 1 3 3 2)\n",
         b"(run 1 2 0)\n(run 2 2 2)\n(run 3 1 0)\n(move 1 3 0)\n(claim 1 1 1)\n",
-    );
+    )?;
     show(
+        rt,
         b"16: the lowest reader, not the first file",
         b"(board (blue 4 9) (red 1 9))\n(task 1 1 1)\n(task 2 1 1)\n(task 3 1 1)\n(task 4 1 1)\n(file 1 4 1 1)\n(file 2 3 1 1)\n",
         b"(run 1 1 0)\n(run 2 2 0)\n(run 3 3 0)\n(run 4 4 0)\n(claim 1 2 0)\n",
-    );
+    )?;
     show(
+        rt,
         b"17 before 18; a move fills memory before its reader starts",
         b"(board (blue 1 2) (red 1 6))\n(task 1 4 2)\n(task 2 3 5)\n(task 3 2 6)\n(file 1 2 2 1)\n(file 1 3 3 2)\n",
         b"(run 1 2 0)\n(run 2 1 3)\n(run 3 1 6)\n(move 1 2 2)\n(move 1 3 3)\n(claim 7 5 5)\n",
-    );
+    )?;
     show(
+        rt,
         b"18: a span longer than the one claimed",
         b"(board (blue 1 9) (red 1 9))\n(task 1 1000000 1)\n",
         b"(run 1 1 999999999)\n(claim 999999999 0 0)\n",
-    );
+    )?;
     show(
+        rt,
         b"18: the peaks exchanged",
         b"(board (blue 1 9) (red 1 9))\n(task 1 1 1)\n(task 2 1 1)\n(file 1 2 3 1)\n",
         b"(run 1 1 0)\n(run 2 1 1)\n(claim 2 0 3)\n",
-    );
+    )
 }
 
-fn main() {
-    examples();
-    unusual();
-    text_faults();
-    order_of_refusals();
-    by_changes();
+fn main(rt: HostRuntime) -> Result<()> {
+    examples(&rt)?;
+    unusual(&rt)?;
+    text_faults(&rt)?;
+    order_of_refusals(&rt)?;
+    by_changes(&rt)
 }

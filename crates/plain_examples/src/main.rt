@@ -1,84 +1,93 @@
 // The four planners side by side on the sheets of data/ (Order 4): of each the number, the place and the trials, then its timetable and what
 // the marker says to it on the same sheet.
 #![tactic(auto)]
+
 use console::{Input, Planner, plan, print_answer, print_numbers, print_plan_mark, read_file};
-use libc::STDOUT_FILENO;
+use std::io::Result;
+use std::rt::Files;
 
 // One planner on a sheet: its answer, and how its timetable is marked.
-fn show_plan<'a>(name: &'a [u8], label: &'a [u8], planner: Planner, sheet: &'a [u8]) {
+fn show_plan<'a>(
+    rt: &impl Print,
+    name: &'a [u8],
+    label: &'a [u8],
+    planner: Planner,
+    sheet: &'a [u8],
+) -> Result<()> {
     let mut out = io::large_buffer();
     let a = plan(planner, sheet, &mut out);
-    print_numbers(name, label, a);
-    print_answer(a, &out);
-    print_plan_mark(sheet, a, &out);
+    print_numbers(rt, name, label, a)?;
+    print_answer(rt, a, &out)?;
+    print_plan_mark(rt, sheet, a, &out)
 }
 
 // Each plain planner, and behind it the memory-aware one.
-fn show_planners<'a>(name: &'a [u8], sheet: &'a [u8]) {
-    show_plan(name, b", HEFT:", Planner::Heft, sheet);
-    show_plan(name, b", MemHEFT:", Planner::MemHeft, sheet);
-    show_plan(name, b", MINMIN:", Planner::MinMin, sheet);
-    show_plan(name, b", MemMinMin:", Planner::MemMinMin, sheet);
+fn show_planners<'a>(rt: &impl Print, name: &'a [u8], sheet: &'a [u8]) -> Result<()> {
+    show_plan(rt, name, b", HEFT:", Planner::Heft, sheet)?;
+    show_plan(rt, name, b", MemHEFT:", Planner::MemHeft, sheet)?;
+    show_plan(rt, name, b", MINMIN:", Planner::MinMin, sheet)?;
+    show_plan(rt, name, b", MemMinMin:", Planner::MemMinMin, sheet)
 }
 
 // The planners on the sheet of a file.
-fn show(name: &[u8]) {
+fn show(rt: &(impl Files + Print), err: &impl Print, name: &[u8]) -> Result<()> {
     let mut sheet = io::large_buffer();
-    let Input::Bytes(n) = read_file(b"plain_examples", name, &mut sheet) else {
-        return;
+    let Input::Bytes(n) = read_file(rt, err, b"plain_examples", name, &mut sheet) else {
+        return Ok(());
     };
-    show_planners(name, &sheet[..n]);
+    show_planners(rt, name, &sheet[..n])
 }
 
 // The course example takes 76 bytes; 75 are lent to HEFT, and stay as they were.
-fn show_short() {
+fn show_short(rt: &impl Print) -> Result<()> {
     let sheet =
         b"(board (blue 1 6) (red 1 6))\n(task 1 4 2)\n(task 2 3 5)\n(task 3 2 6)\n(file 1 2 2 1)\n(file 1 3 3 2)\n";
     let mut out = [b'.'; 75];
     let a = frames::heft(sheet, &mut out);
-    print_numbers(b"75 bytes", b", HEFT:", a);
-    io::write_all(STDOUT_FILENO, &out);
-    io::write_all(STDOUT_FILENO, b"\n");
+    print_numbers(rt, b"75 bytes", b", HEFT:", a)?;
+    rt.write_all(&out)?;
+    rt.write_all(b"\n")
 }
 
 // Times of up to 1000000000 ticks (Order 5).
-fn nanoseconds() {
+fn nanoseconds(rt: &(impl Files + Print), err: &impl Print) -> Result<()> {
     // a move of one tick less than the run that it saves; and of as many, where blue is taken
-    show(b"move_pays.sheet");
-    show(b"move_ties.sheet");
+    show(rt, err, b"move_pays.sheet")?;
+    show(rt, err, b"move_ties.sheet")?;
     // the memory-aware planners let task 3 wait for memory until tick 2000000000, the plain ones start it at 0
-    show(b"seconds.sheet");
+    show(rt, err, b"seconds.sheet")
 }
 
-fn main() {
+fn main(rt: HostRuntime) -> Result<()> {
+    let err = rt.stderr();
     // the course example: limits of 6, all files together 5; each planner writes its plain parent's timetable
-    show(b"course.sheet");
+    show(&rt, &err, b"course.sheet")?;
     // blue limit 4: the memory-aware planners keep task 3 on red, the plain plan is over the limit at tick 4
-    show(b"course_blue_4.sheet");
+    show(&rt, &err, b"course_blue_4.sheet")?;
     // both limits 4: the memory-aware planners are stuck, the plain plan is over the limit at once
-    show(b"course_both_4.sheet");
+    show(&rt, &err, b"course_both_4.sheet")?;
     // four planners, four plans; both plain ones over the red limit of 0
-    show(b"four_plans.sheet");
+    show(&rt, &err, b"four_plans.sheet")?;
     // ample memory: HEFT and MINMIN differ, HEFT is later
-    show(b"heft_later.sheet");
+    show(&rt, &err, b"heft_later.sheet")?;
     // the same with task 3 faster on blue: MINMIN is later
-    show(b"heft_sooner.sheet");
+    show(&rt, &err, b"heft_sooner.sheet")?;
     // limits that equal the plain plan's peaks, 3 and 3, less than all files, 4: the plain plan is valid, and the memory-aware planners write another
-    show(b"limits_are_peaks.sheet");
+    show(&rt, &err, b"limits_are_peaks.sheet")?;
     // the same premise, peaks 3 and 2: the memory-aware planners are stuck
-    show(b"limits_are_peaks_stuck.sheet");
+    show(&rt, &err, b"limits_are_peaks_stuck.sheet")?;
     // limits of 7 above the plain plan's peaks, 6 and 6, and below all files, 9: another plan all the same
-    show(b"limits_above_peaks.sheet");
+    show(&rt, &err, b"limits_above_peaks.sheet")?;
     // a plain plan that is over a limit and longer besides
-    show(b"refused_and_longer.sheet");
+    show(&rt, &err, b"refused_and_longer.sheet")?;
     // the memory-aware planners are stuck after one task
-    show(b"stuck_later.sheet");
+    show(&rt, &err, b"stuck_later.sheet")?;
     // over the limit only while a relay holds what it reads and what it makes
-    show(b"relay.sheet");
+    show(&rt, &err, b"relay.sheet")?;
     // a relay last: over the limit at the span
-    show(b"relay_last.sheet");
+    show(&rt, &err, b"relay_last.sheet")?;
     // a refused sheet: each planner refuses it, with 0 trials
-    show(b"refused_line.sheet");
-    show_short();
-    nanoseconds();
+    show(&rt, &err, b"refused_line.sheet")?;
+    show_short(&rt)?;
+    nanoseconds(&rt, &err)
 }

@@ -1,5 +1,6 @@
 // The simulator called on the course example of document 01 and on papers near it (Order 3): each call, and its answer in plain forms.
 #![tactic(auto)]
+
 mod course;
 mod ends;
 mod faults;
@@ -10,18 +11,17 @@ mod state;
 mod texts;
 mod work;
 
-use libc::STDOUT_FILENO;
+use std::io::Result;
 
-fn main() {
-    io::write_all(
-        STDOUT_FILENO,
+fn main(rt: HostRuntime) -> Result<()> {
+    rt.write_all(
         b"of each call: steps already made and steps to make; how it ends, steps made in all, time, task on each processor, where each file is held\n",
-    );
-    course::examples();
-    past::examples();
-    faults::examples();
-    texts::examples();
-    ends::examples();
-    relays::examples();
-    work::examples();
+    )?;
+    course::examples(&rt)?;
+    past::examples(&rt)?;
+    faults::examples(&rt)?;
+    texts::examples(&rt)?;
+    ends::examples(&rt)?;
+    relays::examples(&rt)?;
+    work::examples(&rt)
 }

@@ -3,8 +3,8 @@ use crate::state::{print_held, print_running};
 use console::{print_number, print_verdict};
 use frames::{Progress, Simulation};
 use instance::InstanceRead;
-use libc::STDOUT_FILENO;
 use model::layout;
+use std::io::Result;
 
 // The number of processors of a board, and of files of its sheet.
 #[derive(Clone, Copy)]
@@ -32,64 +32,86 @@ fn counts_of(sheet: &[u8]) -> Counts {
 }
 
 // A space and a form: a name and a number.
-fn print_form(name: &[u8], n: u64) -> bool {
-    io::write_all(STDOUT_FILENO, b" (")
-        && io::write_all(STDOUT_FILENO, name)
-        && print_number(n)
-        && io::write_all(STDOUT_FILENO, b")")
+fn print_form(rt: &impl Print, name: &[u8], n: u64) -> Result<()> {
+    rt.write_all(b" (")?;
+    rt.write_all(name)?;
+    print_number(rt, n)?;
+    rt.write_all(b")")
 }
 
 // The same with two numbers.
-fn print_pair(name: &[u8], m: u64, n: u64) -> bool {
-    io::write_all(STDOUT_FILENO, b" (")
-        && io::write_all(STDOUT_FILENO, name)
-        && print_number(m)
-        && print_number(n)
-        && io::write_all(STDOUT_FILENO, b")")
+fn print_pair(rt: &impl Print, name: &[u8], m: u64, n: u64) -> Result<()> {
+    rt.write_all(b" (")?;
+    rt.write_all(name)?;
+    print_number(rt, m)?;
+    print_number(rt, n)?;
+    rt.write_all(b")")
 }
 
 // How a call ends: a refusal by number and place, steps left, a stop by number and tick, or the end with the span.
-fn print_progress(progress: Progress) -> bool {
+fn print_progress(rt: &impl Print, progress: Progress) -> Result<()> {
     match progress {
-        Progress::Refused { number, place } => print_pair(b"refused", number, place),
-        Progress::StepsLeft => io::write_all(STDOUT_FILENO, b" (steps left)"),
-        Progress::Stopped { number, tick } => print_pair(b"stopped", number, tick),
-        Progress::Ended { span } => print_form(b"ended", span),
+        Progress::Refused { number, place } => print_pair(rt, b"refused", number, place),
+        Progress::StepsLeft => rt.write_all(b" (steps left)"),
+        Progress::Stopped { number, tick } => print_pair(rt, b"stopped", number, tick),
+        Progress::Ended { span } => print_form(rt, b"ended", span),
     }
 }
 
 // The whole answer, on a sheet of these counts.
-fn print_simulation(a: Simulation, counts: Counts) {
+fn print_simulation(rt: &impl Print, a: Simulation, counts: Counts) -> Result<()> {
     let progress = a.progress;
     let running = a.running;
     let contents = a.contents;
-    print_progress(progress);
-    print_form(b"made", a.made);
-    print_form(b"time", a.time);
-    print_running(running, counts.processors);
-    print_held(contents, counts.files);
+    print_progress(rt, progress)?;
+    print_form(rt, b"made", a.made)?;
+    print_form(rt, b"time", a.time)?;
+    print_running(rt, running, counts.processors)?;
+    print_held(rt, contents, counts.files)
 }
 
 // What is shown; on the next line the call, and its answer.
-fn print_call<'a>(what: &'a [u8], sheet: &'a [u8], paper: &'a [u8], made: u64, steps: u64) {
-    io::write_all(STDOUT_FILENO, what);
-    io::write_all(STDOUT_FILENO, b"\n ");
-    print_pair(b"simulate", made, steps);
+fn print_call<'a>(
+    rt: &impl Print,
+    what: &'a [u8],
+    sheet: &'a [u8],
+    paper: &'a [u8],
+    made: u64,
+    steps: u64,
+) -> Result<()> {
+    rt.write_all(what)?;
+    rt.write_all(b"\n ")?;
+    print_pair(rt, b"simulate", made, steps)?;
     print_simulation(
+        rt,
         frames::simulate(sheet, paper, made, steps),
         counts_of(sheet),
-    );
+    )
 }
 
 // An example, with the steps already made and those to make.
-pub fn show<'a>(what: &'a [u8], sheet: &'a [u8], paper: &'a [u8], made: u64, steps: u64) {
-    print_call(what, sheet, paper, made, steps);
-    io::write_all(STDOUT_FILENO, b"\n");
+pub fn show<'a>(
+    rt: &impl Print,
+    what: &'a [u8],
+    sheet: &'a [u8],
+    paper: &'a [u8],
+    made: u64,
+    steps: u64,
+) -> Result<()> {
+    print_call(rt, what, sheet, paper, made, steps)?;
+    rt.write_all(b"\n")
 }
 
 // The same with the marker's answer beside it.
-pub fn show_marked<'a>(what: &'a [u8], sheet: &'a [u8], paper: &'a [u8], made: u64, steps: u64) {
-    print_call(what, sheet, paper, made, steps);
-    io::write_all(STDOUT_FILENO, b", the marker: ");
-    print_verdict(frames::mark(sheet, paper));
+pub fn show_marked<'a>(
+    rt: &impl Print,
+    what: &'a [u8],
+    sheet: &'a [u8],
+    paper: &'a [u8],
+    made: u64,
+    steps: u64,
+) -> Result<()> {
+    print_call(rt, what, sheet, paper, made, steps)?;
+    rt.write_all(b", the marker: ")?;
+    print_verdict(rt, frames::mark(sheet, paper))
 }

@@ -1,98 +1,112 @@
 // Task lines with W: each with the timetable that is right for a task of 4 ticks on blue.
 use console::print_marks;
-use libc::STDOUT_FILENO;
+use std::io::Result;
 
 // Prints what is shown, and how a timetable is marked; under a refusal of a line stands that line.
-fn show<'a>(what: &'a [u8], sheet: &'a [u8], paper: &'a [u8]) {
-    io::write_all(STDOUT_FILENO, what);
-    io::write_all(STDOUT_FILENO, b": ");
-    print_marks(sheet, paper);
+fn show<'a>(rt: &impl Print, what: &'a [u8], sheet: &'a [u8], paper: &'a [u8]) -> Result<()> {
+    rt.write_all(what)?;
+    rt.write_all(b": ")?;
+    print_marks(rt, sheet, paper)
 }
 
 // W from 1 to 1000000; left out, it is 0.
-fn ranges() {
+fn ranges(rt: &impl Print) -> Result<()> {
     show(
+        rt,
         b"W left out",
         b"(board (blue 1 0) (red 1 0))\n(task 1 4 2)\n",
         b"(run 1 1 0)\n(claim 4 0 0)\n",
-    );
+    )?;
     show(
+        rt,
         b"W of 1",
         b"(board (blue 1 1) (red 1 0))\n(task 1 4 2 1)\n",
         b"(run 1 1 0)\n(claim 4 1 0)\n",
-    );
+    )?;
     show(
+        rt,
         b"W of 1000000",
         b"(board (blue 1 1000000) (red 1 0))\n(task 1 4 2 1000000)\n",
         b"(run 1 1 0)\n(claim 4 1000000 0)\n",
-    );
+    )?;
     show(
+        rt,
         b"3: a written 0",
         b"(board (blue 1 0) (red 1 0))\n(task 1 4 2 0)\n",
         b"(run 1 1 0)\n(claim 4 0 0)\n",
-    );
+    )?;
     show(
+        rt,
         b"3: W of 1000001",
         b"(board (blue 1 1000001) (red 1 0))\n(task 1 4 2 1000001)\n",
         b"(run 1 1 0)\n(claim 4 1000001 0)\n",
-    );
+    )?;
     show(
+        rt,
         b"3: W of 12 digits",
         b"(board (blue 1 0) (red 1 0))\n(task 1 4 2 999999999999)\n",
         b"",
-    );
+    )
 }
 
 // Lines that have neither form of a task's line.
-fn forms() {
+fn forms(rt: &impl Print) -> Result<()> {
     show(
+        rt,
         b"2: W of 13 digits",
         b"(board (blue 1 0) (red 1 0))\n(task 1 4 2 1000000000000)\n",
         b"",
-    );
+    )?;
     show(
+        rt,
         b"2: W with a leading zero",
         b"(board (blue 1 5) (red 1 0))\n(task 1 4 2 05)\n",
         b"",
-    );
+    )?;
     show(
+        rt,
         b"2: a space and no W",
         b"(board (blue 1 5) (red 1 0))\n(task 1 4 2 )\n",
         b"",
-    );
+    )?;
     show(
+        rt,
         b"2: a number behind W",
         b"(board (blue 1 5) (red 1 0))\n(task 1 4 2 5 5)\n",
         b"",
-    );
+    )?;
     show(
+        rt,
         b"2: W without its LF",
         b"(board (blue 1 5) (red 1 0))\n(task 1 4 2 5)",
         b"",
-    );
+    )
 }
 
 // A readable line that is not the next; a number out of range is told first.
-fn order() {
+fn order(rt: &impl Print) -> Result<()> {
     show(
+        rt,
         b"4: not the next task",
         b"(board (blue 1 5) (red 1 0))\n(task 2 4 2 5)\n",
         b"",
-    );
+    )?;
     show(
+        rt,
         b"3: not the next task either, with a written 0",
         b"(board (blue 1 5) (red 1 0))\n(task 2 4 2 0)\n",
         b"",
-    );
+    )?;
     show(
+        rt,
         b"4: a task with W behind a file",
         b"(board (blue 1 5) (red 1 0))\n(task 1 4 2)\n(task 2 4 2 5)\n(file 1 2 0 1)\n(task 3 4 2 5)\n",
         b"",
-    );
+    )
 }
 
-pub fn examples() {
-    ranges();
-    forms();
-    order();
+pub fn examples(rt: &impl Print) -> Result<()> {
+    ranges(rt)?;
+    forms(rt)?;
+    order(rt)
 }

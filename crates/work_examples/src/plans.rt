@@ -1,82 +1,99 @@
 // Plans of tasks with W: start 3 asks for it, start 4 does not, and a plain planner asks for neither.
 use console::{Planner, plan, print_answer, print_numbers, print_plan_mark};
+use std::io::Result;
 
 // One planner on a sheet: its answer, and how its timetable is marked.
-fn show_planner<'a>(what: &'a [u8], label: &'a [u8], planner: Planner, sheet: &'a [u8]) {
+fn show_planner<'a>(
+    rt: &impl Print,
+    what: &'a [u8],
+    label: &'a [u8],
+    planner: Planner,
+    sheet: &'a [u8],
+) -> Result<()> {
     let mut out = io::large_buffer();
     let a = plan(planner, sheet, &mut out);
-    print_numbers(what, label, a);
-    print_answer(a, &out);
-    print_plan_mark(sheet, a, &out);
+    print_numbers(rt, what, label, a)?;
+    print_answer(rt, a, &out)?;
+    print_plan_mark(rt, sheet, a, &out)
 }
 
 // All four planners on a sheet.
-fn show<'a>(what: &'a [u8], sheet: &'a [u8]) {
-    show_planner(what, b", MemHEFT:", Planner::MemHeft, sheet);
-    show_planner(what, b", MemMinMin:", Planner::MemMinMin, sheet);
-    show_planner(what, b", HEFT:", Planner::Heft, sheet);
-    show_planner(what, b", MINMIN:", Planner::MinMin, sheet);
+fn show<'a>(rt: &impl Print, what: &'a [u8], sheet: &'a [u8]) -> Result<()> {
+    show_planner(rt, what, b", MemHEFT:", Planner::MemHeft, sheet)?;
+    show_planner(rt, what, b", MemMinMin:", Planner::MemMinMin, sheet)?;
+    show_planner(rt, what, b", HEFT:", Planner::Heft, sheet)?;
+    show_planner(rt, what, b", MINMIN:", Planner::MinMin, sheet)
 }
 
 // W alone.
-fn alone() {
+fn alone(rt: &impl Print) -> Result<()> {
     show(
+        rt,
         b"W of 5 over both limits of 4",
         b"(board (blue 1 4) (red 1 4))\n(task 1 2 2 5)\n",
-    );
+    )?;
     show(
+        rt,
         b"W of 5 over the limit of red, the faster colour",
         b"(board (blue 1 5) (red 1 4))\n(task 1 9 2 5)\n",
-    );
+    )
 }
 
 // Task 2 reads a file of 2 blocks that task 1 makes on red. On blue, of 5 blocks, the file fits and W of 4 beside it does not.
-fn third_start() {
+fn third_start(rt: &impl Print) -> Result<()> {
     show(
+        rt,
         b"W of 4 fits start 4 and not start 3",
         b"(board (blue 1 5) (red 1 9))\n(task 1 9 1)\n(task 2 1 9 4)\n(file 1 2 2 1)\n",
-    );
+    )?;
     show(
+        rt,
         b"W of 3 fits both",
         b"(board (blue 1 5) (red 1 9))\n(task 1 9 1)\n(task 2 1 9 3)\n(file 1 2 2 1)\n",
-    );
+    )
 }
 
 // Two tasks that could run at once, but for their W.
-fn waiting() {
+fn waiting(rt: &impl Print) -> Result<()> {
     show(
+        rt,
         b"two of W 3 on 5 blocks: the second waits",
         b"(board (blue 2 5) (red 1 0))\n(task 1 4 9 3)\n(task 2 4 9 3)\n",
-    );
+    )?;
     show(
+        rt,
         b"limits of all W: none waits",
         b"(board (blue 2 6) (red 1 6))\n(task 1 4 9 3)\n(task 2 4 9 3)\n",
-    );
+    )?;
     show(
+        rt,
         b"W left out: none waits",
         b"(board (blue 2 5) (red 1 0))\n(task 1 4 9)\n(task 2 4 9)\n",
-    );
+    )?;
     show(
+        rt,
         b"relays of W 3: the second waits one tick",
         b"(board (blue 2 5) (red 1 0))\n(task 1 0 9 3)\n(task 2 0 9 3)\n",
-    );
+    )
 }
 
 // A file of 2 blocks and W of 1 and 3: all together 6.
-fn ample() {
+fn ample(rt: &impl Print) -> Result<()> {
     show(
+        rt,
         b"limits of all files and all W",
         b"(board (blue 1 6) (red 1 6))\n(task 1 9 1 1)\n(task 2 1 9 3)\n(file 1 2 2 1)\n",
-    );
+    )?;
     show(
+        rt,
         b"limits of all files alone",
         b"(board (blue 1 2) (red 1 2))\n(task 1 9 1 1)\n(task 2 1 9 3)\n(file 1 2 2 1)\n",
-    );
+    )
 }
 
-pub fn examples() {
-    alone();
-    third_start();
-    waiting();
-    ample();
+pub fn examples(rt: &impl Print) -> Result<()> {
+    alone(rt)?;
+    third_start(rt)?;
+    waiting(rt)?;
+    ample(rt)
 }
