@@ -7,6 +7,7 @@ pub mod conversion;
 pub mod conversion_edges;
 pub mod conversion_papers;
 pub mod converting;
+pub mod counting;
 pub mod edges;
 pub mod finer;
 pub mod generate;

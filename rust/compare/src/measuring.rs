@@ -2,7 +2,7 @@
 
 use crate::library::{self, named};
 use crate::reference::{read_sheet, Heuristic, Memory, Planner, MAX_TEXT};
-use crate::timing::{Times, Turns};
+use crate::counting::{Times, Turns};
 use std::hint::black_box;
 use Heuristic::{Heft, MinMin};
 use Memory::{Aware, Plain};
