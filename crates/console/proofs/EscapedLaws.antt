@@ -1,21 +1,20 @@
 -- Escaped bytes: how many there are, that each is printable, and the invariant of the loop that writes them.
 use Prim.Native.Nat.{ℕ, zero, suc, ◌+◌, ◌*◌, ◌-◌, ◌/◌, ◌%◌, ◌≤◌, ◌<◌}
-use mathlib.Core.Bool.{true, false}
+use mathlib.Core.Bool.{true}
 use mathlib.Core.Path.{◌≡◌, refl, sym, ap, ◌∙◌}
 use mathlib.Core.List.{List, [], ◌∷◌, ◌++◌, append_assoc, append-nil}
 use native.Mathlib.Nat.{le_of_suc-le-suc}
 use native.Mathlib.Omega.{arith}
 use native.Mathlib.Numerals.{add-one}
-use borrow.Author.Tests.{le-leb, ltb-true, ne_eqb}
+use borrow.Author.Tests.{le-leb, ltb-true}
 use lib.Dec.{ltb, eqb}
-use lib.ListN.{length, get_or, take, drop, set, length-append, length-drop, length-set, get_or-append}
+use lib.ListN.{length, get_or, take, drop, length-append, length-drop, get_or-append}
 use lib.Seq.{take-suc, take_all, length-take-le}
-use Rattle.io.specs.Digits.{hex_digit_ascii, last_digits}
-use Rattle.io.specs.Counts.{IsPrefixLen}
+use Rattle.io.specs.Digits.{hex_digit_ascii}
 use Rattle.rules.proofs.Tests.{split}
 use Rattle.text.specs.Wrote.{Wrote}
 use Rattle.text.proofs.PartLaws.{tail-part}
-use Rattle.text.proofs.WroteLaws.{wrote-byte, wrote_none, wrote-length, wrote-within, wrote-part}
+use Rattle.text.proofs.WroteLaws.{wrote_none, wrote-length, wrote-part}
 use Rattle.console.specs.Escaped.{printable, escaped_byte, escaped}
 
 -- ---- how many
@@ -78,38 +77,10 @@ byte-shown b =
     (shown-more 120 (u ∷ v ∷ []) refl
     (shown-more u (v ∷ []) (glyph-printable (b / 16 % 16) (omega arith)) (shown-more v [] (glyph-printable (b % 16) (omega arith)) shown-none)))))
 
-pub escaped-shown : (s : List ℕ) → Shown (escaped s)
+escaped-shown : (s : List ℕ) → Shown (escaped s)
 unfolding escaped
 escaped-shown [] = shown-none
 escaped-shown (b ∷ s) = shown-append (escaped_byte b) (escaped s) (byte-shown b) (escaped-shown s)
-
--- ---- up to four bytes are stored
-module _ (old : List ℕ) (room : 4 ≤ length old) where
-  pub second-room : (a : ℕ) → 1 < length (set old 0 a)
-  second-room a = rw length-set (omega arith)
-
-  pub third-room : (a b : ℕ) → 2 < length (set (set old 0 a) 1 b)
-  third-room a b = simp length-set (omega arith)
-
-  one-stored : (a : ℕ) → Wrote (a ∷ []) 1 old (set old 0 a)
-  one-stored a = wrote-byte (wrote_none old) a (omega arith)
-
-  two-stored : (a b : ℕ) → Wrote (a ∷ b ∷ []) 2 old (set (set old 0 a) 1 b)
-  two-stored a b = wrote-byte (one-stored a) b (omega arith)
-
-  pub four-stored : (a b : ℕ) {c d c' d' : ℕ} → c ≡ c' → d ≡ d'
-      → Wrote (a ∷ b ∷ c' ∷ d' ∷ []) 4 old (set (set (set (set old 0 a) 1 b) 2 c) 3 d)
-  four-stored a b {c' = c} {d' = d} p q = rw (p, q) (wrote-byte (wrote-byte (two-stored a b) c (omega arith)) d (omega arith))
-
-  pub wrote-backslash : (b : ℕ) → b ≡ 92 → Wrote (escaped_byte b) 2 old (set (set old 0 92) 1 92)
-  wrote-backslash b e = rw e (two-stored 92 92)
-
-  pub wrote-printable : (b : ℕ) → printable b ≡ true → (b ≡ 92 → ⊥) → Wrote (escaped_byte b) 1 old (set old 0 b)
-  wrote-printable b p n = rw (p, ne_eqb b 92 n) (one-stored b)
-
-pub wrote-hex : (b : ℕ) → printable b ≡ false → {r : ℕ} {old new : List ℕ} → Wrote (92 ∷ 120 ∷ last_digits 16 2 b) r old new
-    → Wrote (escaped_byte b) r old new
-wrote-hex b p w = rw p w
 
 -- ---- a text's first i bytes are written, up to `at`
 pub record Escaping (text old out : List ℕ) (at i : ℕ) : Type 0 where
@@ -128,11 +99,8 @@ module _ {text old out : List ℕ} {at i : ℕ} (r : Escaping text old out at i)
   fits : length (escaped (take i text)) ≤ length old
   fits = omega (arith, short, r.within, r.room)
 
-  pub escaping-length : length out ≡ length old
+  escaping-length : length out ≡ length old
   escaping-length = wrote-length r.wrote fits
-
-  pub escaping-within : at ≤ length out
-  escaping-within = wrote-within r.wrote fits
 
   module _ (h : i < length text) where
     abbrev next : List ℕ
@@ -153,11 +121,8 @@ module _ {text old out : List ℕ} {at i : ℕ} (r : Escaping text old out at i)
           room = r.room;
         }
 
-  pub escaping-end : length text ≤ i → Wrote (escaped text) at old out
+  escaping-end : length text ≤ i → Wrote (escaped text) at old out
   escaping-end h = rw (take_all i text h) at r.wrote
-
-  pub escaping-counts : IsPrefixLen at out
-  escaping-counts = (escaping-within, sym (length-take-le at out escaping-within))
 
   pub escaping-shown : length text ≤ i → (k : ℕ) → k < at → printable (get_or out k 0) ≡ true
   escaping-shown h k l =

@@ -1,5 +1,3 @@
--- The laws that the proofs of this crate cite. Other crates cite `within-bytes`.
+-- The laws that the proofs of this crate cite.
 pub mod EscapedLaws
 pub mod LongEnoughLaws
-pub mod NamedLaws
-pub mod ReadLaws

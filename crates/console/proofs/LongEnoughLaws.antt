@@ -1,13 +1,12 @@
 -- A buffer as long as a text may be is long enough for an answer.
 use Prim.Native.Nat.{ℕ, ◌≤◌}
 use mathlib.Core.List.{List}
-use mathlib.Core.Path.{◌≡◌, refl, sym, ap, ◌∙◌}
+use mathlib.Core.Path.{◌≡◌, refl, sym, subst}
 use native.Mathlib.Omega.{arith}
 use lib.ListN.{length}
 use Rattle.rules.specs.Limits.{max_text}
 use Rattle.rules.specs.Model.{Instance}
 use Rattle.rules.specs.InstanceText.{InstanceRead, refused, accepted, read_instance}
-use Rattle.rules.specs.Scheduling.{Planner}
 use Rattle.rules.specs.Conversion.{Output, converted_text, stripped_text, output, convert}
 use Rattle.rules.specs.Stripping.{strip}
 use Rattle.rules.specs.ConversionPromises.{Convertible}
@@ -15,22 +14,10 @@ use Rattle.rules.proofs.FaultLaws.{sheet-numbers}
 use Rattle.rules.proofs.SheetLaws.{sheet_exact}
 use Rattle.rules.proofs.ConvertLaws.{Outputs, short, fits, outputs, OrTooMany, by41, by42, passes, or-too-many, convert-refused, convert-accepted}
 use Rattle.rules.proofs.StripLaws.{Strips, by_mark, leaves, strips, strip-refused, strip-accepted}
-use Rattle.plan_text.specs.declared.Answer.{Answer}
-use Rattle.plan_text.specs.Answers.{as_answer}
 use Rattle.convert_text.specs.declared.answer.Converted.{Converted}
 use Rattle.convert_text.specs.Answers.{as_output}
-use Rattle.frames.specs.Demands.{PlannerDemands}
 use Rattle.frames.specs.ConversionDemands.{ConverterDemands, StripperDemands}
 use Rattle.console.specs.LongEnough.{LongEnough}
-
--- ---- a planner's
-
-pub long-enough : (R : Planner) (sheet buffer out : List ℕ) (a : Answer) → max_text ≤ length buffer → length out ≡ length buffer
-    → PlannerDemands R sheet buffer (as_answer a out) → LongEnough a.number a.place out
-long-enough R sheet buffer out a h l p = record {
-  within = λ z. let w = (p.marked z).written in omega (arith, w.place, w.rule.fits, l);
-  not_short = p.roomy h;
-}
 
 -- ---- the converter's and the stripper's: a text that was written lies in the buffer
 
@@ -73,13 +60,13 @@ module _ (buffer out : List ℕ) (a : Converted) (h : max_text ≤ length buffer
   pub long-enough-sheet : (sheet : List ℕ) → as_output a out ≡ convert sheet buffer → ConverterDemands sheet buffer (as_output a out)
       → LongEnough a.number a.place out
   long-enough-sheet sheet e d = record {
-    within = λ z. let i : Inside buffer (as_output a out) = rw e (convert-inside sheet buffer) in omega (arith, i z, l);
+    within = λ z. let i = subst (λ (x : Output). Inside buffer x) (sym e) (convert-inside sheet buffer) in omega (arith, i z, l);
     not_short = d.roomy h;
   }
 
   pub long-enough-left : (sheet paper : List ℕ) → as_output a out ≡ strip sheet paper buffer → StripperDemands sheet paper buffer (as_output a out)
       → LongEnough a.number a.place out
   long-enough-left sheet paper e d = record {
-    within = λ z. let i : Inside buffer (as_output a out) = rw e (strip-inside sheet paper buffer) in omega (arith, i z, l);
+    within = λ z. let i = subst (λ (x : Output). Inside buffer x) (sym e) (strip-inside sheet paper buffer) in omega (arith, i z, l);
     not_short = d.roomy h;
   }

@@ -1,0 +1,9 @@
+-- No more is read than the buffer has.
+use Rattle.std.proofs.Common.{◌≤◌, ◌-◌, length}
+use Rattle.console.proofs.input.read_all.Given as goal
+
+abbrev pub invariant-loop-n : goal.invariant-loop-n
+invariant-loop-n g l = l.n ≤ length l.buf
+
+abbrev pub decreases-loop-n : goal.decreases-loop-n
+decreases-loop-n g l = length l.buf - l.n
