@@ -5,7 +5,7 @@ use mathlib.Core.List.{List, [], ◌∷◌}
 use mathlib.Core.Path.{◌≡◌, sym, ◌∙◌}
 use native.Mathlib.Numerals.{add-one}
 use native.Mathlib.Omega.{arith}
-use borrow.Author.Tests.{lt-ltb, le-ltb, le-leb, lt-leb, ltb-true, ltb-false}
+use borrow.Author.Tests.{lt-ltb, le-ltb, ltb-true, ltb-false}
 use lib.Dec.{ltb}
 use lib.ListN.{length, get_or, drop, drop_of_length-le}
 use lib.Seq.{drop-cons}
@@ -18,20 +18,6 @@ use Rattle.framewatch.specs.Decimal.{all_digits, number_of, with_digit}
 -- ---- one digit more
 abbrev next : ℕ → ℕ → ℕ
 next v b = v * 10 + (b - 48)
-
-module _ (v b : ℕ) where
-  pub below-digits : b < 48 → Not ≡ with_digit v b
-  below-digits h = rw (lt-leb 48 b h)
-
-  pub above-digits : 57 < b → Not ≡ with_digit v b
-  above-digits h = rw (le-leb 48 b (omega arith), lt-leb b 57 h)
-
-  module _ (l : 48 ≤ b) (h : b ≤ 57) where
-    pub too_large : 2 ^ 64 ≤ next v b → Not ≡ with_digit v b
-    too_large g = rw (le-leb 48 b l, le-leb b 57 h, le-ltb (next v b) (2 ^ 64) g)
-
-    pub still-small : next v b < 2 ^ 64 → Is (next v b) ≡ with_digit v b
-    still-small g = rw (le-leb 48 b l, le-leb b 57 h, lt-ltb (next v b) (2 ^ 64) g)
 
 -- ---- the number v, and then the digits that follow it
 unfoldable pub rest : ℕ → List ℕ → Number
@@ -80,9 +66,6 @@ rest-stop v b s e =
 pub record Reading (s : List ℕ) (v i : ℕ) : Type 0 where
   pub within : i ≤ length s
   pub left : number_of s ≡ rest v (drop i s)
-
-pub no-digits : (s : List ℕ) → length s ≤ 0 → Not ≡ number_of s
-no-digits s h = rw (le-ltb 0 (length s) h)
 
 pub reading-start : (s : List ℕ) → 0 < length s → Reading s 0 0
 reading-start s h = record {
