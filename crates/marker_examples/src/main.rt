@@ -1,10 +1,10 @@
 // Timetables marked: examples e to m of document 01, papers that neither MemHEFT nor MemMinMin would make, each refusal, and peaks by changes.
 #![tactic(auto)]
 
-mod changes;
+mod peaks;
 
-use changes::by_changes;
 use console::print_number;
+use peaks::by_changes;
 use std::io::Result;
 
 // Prints what is shown, the verdict, and the line at fault.
