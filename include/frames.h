@@ -24,7 +24,7 @@ extern "C" {
 #define FRAMES_MAX_TEXT 32768
 
 /* Stack that is enough, in bytes: for a planner, for frames_strip, and for any other call. On the largest sheet (64 tasks, 256 files) a planner used
- * 44 KB, the marker, with every file moved, 30 KB, the simulator 19 KB, frames_convert 20 KB and frames_strip 43 KB: tests/calls.c runs each call on
+ * 45 KB, the marker, with every file moved, 30 KB, the simulator 22 KB, frames_convert 20 KB and frames_strip 43 KB: tests/calls.c runs each call on
  * a painted stack, and fails if one uses more than this. */
 #define FRAMES_STACK 32768
 #define FRAMES_PLAN_STACK 49152
