@@ -1,4 +1,4 @@
--- What the simulator promises, stated of the definitions. Each is a type, proved in proofs/ under its name with a small first letter.
+-- What the simulator promises, stated of the definitions. Each is a type, proved in proofs/ under its name in snake case.
 -- "Not:" names a wrong rule that the promise rules out by itself; where alone it is met by a trivial program, the comment names the promise that
 -- rules that out. TurnLaw, TextExact and SimulatedOnly are in SimulationExact.
 use Rattle.std.specs.Prelude.{ℕ, suc, ◌+◌, ◌*◌, ◌≤◌, ◌<◌, max, min, Bool, true, false, ◌&&◌, ◌||◌, ◌≡◌, ◌↔◌, List, length, get_or, leb, eqb}
