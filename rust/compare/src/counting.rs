@@ -1,33 +1,13 @@
-//! Processor time and instructions of calls, and the least and the median of some times.
+//! Two sides timed by turns, and the instructions of their calls.
 
+use crate::timing::{processor_time, Times};
 use std::fs::File;
 use std::io::Read;
 use std::os::fd::FromRawFd;
 use std::time::Instant;
 
-/// C's timespec on 64-bit Linux.
-#[repr(C)]
-struct Timespec {
-    seconds: i64,
-    nanoseconds: i64,
-}
-
 extern "C" {
-    fn clock_gettime(clock: i32, time: *mut Timespec) -> i32;
     fn syscall(number: i64, ...) -> i64;
-}
-
-const CLOCK_PROCESS_CPUTIME_ID: i32 = 2;
-
-/// The processor time of this process so far, in nanoseconds.
-fn processor_time() -> i64 {
-    let mut time = Timespec {
-        seconds: 0,
-        nanoseconds: 0,
-    };
-    let failed = unsafe { clock_gettime(CLOCK_PROCESS_CPUTIME_ID, &mut time) };
-    assert_eq!(failed, 0, "no processor time");
-    1_000_000_000 * time.seconds + time.nanoseconds
 }
 
 /// The time of a call in microseconds, over so many calls: the processor time; None where it is not the time of day too, to within 3 in 100.
@@ -41,23 +21,6 @@ fn time(calls: u32, call: Side) -> Option<f64> {
     let elapsed = clock.elapsed().as_nanos() as f64;
     let undisturbed = (time - elapsed).abs() <= 0.03 * elapsed;
     undisturbed.then_some(time / f64::from(calls) / 1000.0)
-}
-
-/// The least and the median of some times.
-#[derive(Clone, Copy)]
-pub struct Times {
-    pub least: f64,
-    pub median: f64,
-}
-
-impl Times {
-    pub fn new(mut times: Vec<f64>) -> Times {
-        times.sort_by(f64::total_cmp);
-        Times {
-            least: times[0],
-            median: times[times.len() / 2],
-        }
-    }
 }
 
 /// A call of a side.
@@ -197,12 +160,6 @@ mod tests {
             assert!((0..100).all(|_| processor_time() > 0));
             assert!(count(&mut counter).unwrap() > before);
         }
-    }
-
-    #[test]
-    fn least_and_median() {
-        let Times { least, median } = Times::new(vec![3.0, 1.0, 2.0, 9.0, 7.0]);
-        assert_eq!((least, median), (1.0, 3.0));
     }
 
     /// The sides take turns at being first, and a disturbed round is made again. The time here is the number of calls so far.

@@ -1,8 +1,9 @@
 //! The proved library beside rust/baseline on one job: the planners, the marker, and the reading of the sheet.
 
+use crate::counting::Turns;
 use crate::library::{self, named};
 use crate::reference::{read_sheet, Heuristic, Memory, Planner, MAX_TEXT};
-use crate::counting::{Times, Turns};
+use crate::timing::Times;
 use std::hint::black_box;
 use Heuristic::{Heft, MinMin};
 use Memory::{Aware, Plain};

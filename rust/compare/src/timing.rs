@@ -14,7 +14,7 @@ extern "C" {
 const CLOCK_PROCESS_CPUTIME_ID: i32 = 2;
 
 /// The processor time of this process so far, in nanoseconds.
-fn processor_time() -> i64 {
+pub fn processor_time() -> i64 {
     let mut time = Timespec {
         seconds: 0,
         nanoseconds: 0,
@@ -34,6 +34,7 @@ pub fn time(calls: u32, mut call: impl FnMut()) -> f64 {
 }
 
 /// The least and the median of some times.
+#[derive(Clone, Copy)]
 pub struct Times {
     pub least: f64,
     pub median: f64,
@@ -46,5 +47,16 @@ impl Times {
             least: times[0],
             median: times[times.len() / 2],
         }
+    }
+}
+
+#[cfg(test)]
+mod tests {
+    use super::*;
+
+    #[test]
+    fn least_and_median() {
+        let Times { least, median } = Times::new(vec![3.0, 1.0, 2.0, 9.0, 7.0]);
+        assert_eq!((least, median), (1.0, 3.0));
     }
 }
