@@ -19,8 +19,8 @@ use Rattle.rules.proofs.StrippedLaws.{stripped_law}
 use Rattle.rules.proofs.ConvertLaws.{Outputs, short, fits, outputs, OrTooMany, by41, by42, passes, or-too-many, convert-refused, convert-accepted}
 use Rattle.rules.proofs.ConvertLaws.{convert_refused, convert_exact, convert_ends, converted_short, same_sheet, converted_reads, stripped_accepted, extended_accepted}
 use Rattle.rules.proofs.StripLaws.{Strips, by_mark, leaves, strips, strip-refused, strip-accepted, strip_refused, strip_exact, strip_ends, stripped_short, strip_accepted}
-use Rattle.text.specs.declared.faults.Fault.{Fault}
-use Rattle.text.specs.Faults.{as_fault}
+use Rattle.rules.specs.declared.refusal.Fault.{Fault}
+use Rattle.rules.specs.Refusals.{as_fault}
 use Rattle.model.specs.declared.layout.Shape.{Shape}
 use Rattle.model.specs.Layout.{job_of, instance_from}
 use Rattle.instance.specs.declared.sheet.InstanceRead.{InstanceRead}

@@ -12,8 +12,8 @@ use Rattle.rules.specs.InstanceText.{read_instance}
 use Rattle.rules.specs.ScheduleText as Paper
 use Rattle.rules.specs.ScheduleText.{read_schedule}
 use Rattle.rules.specs.Calls.{mark_on, mark_by, mark, line_at, fault_line}
-use Rattle.text.specs.declared.faults.Fault.{Fault}
-use Rattle.text.specs.Faults.{as_fault}
+use Rattle.rules.specs.declared.refusal.Fault.{Fault}
+use Rattle.rules.specs.Refusals.{as_fault}
 use Rattle.model.specs.declared.layout.Shape.{Shape}
 use Rattle.model.specs.Layout.{job_of, instance_from}
 use Rattle.instance.specs.declared.sheet.InstanceRead.{InstanceRead}

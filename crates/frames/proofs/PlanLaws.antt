@@ -11,8 +11,8 @@ use Rattle.rules.specs.Scheduling.{Planner, outcome}
 use Rattle.rules.specs.Calls.{plan_made, plan_on, plan}
 use Rattle.rules.specs.Calls as Calls
 use Rattle.rules.proofs.PlannerLaws.{plan-refused, plan-stuck, plan-complete}
-use Rattle.text.specs.declared.faults.Fault.{Fault}
-use Rattle.text.specs.Faults.{as_fault}
+use Rattle.rules.specs.declared.refusal.Fault.{Fault}
+use Rattle.rules.specs.Refusals.{as_fault}
 use Rattle.model.specs.declared.layout.Shape.{Shape}
 use Rattle.model.specs.Layout.{job_of, instance_from}
 use Rattle.instance.specs.declared.sheet.InstanceRead.{InstanceRead}

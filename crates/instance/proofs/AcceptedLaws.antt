@@ -5,8 +5,8 @@ use mathlib.Core.List.{List}
 use Rattle.rules.specs.InstanceText.{refused, accepted, read_instance}
 use Rattle.rules.specs.Promises.{WellFormed}
 use Rattle.rules.proofs.SheetLaws.{sheet_exact}
-use Rattle.text.specs.Faults.{as_fault}
-use Rattle.text.specs.declared.faults.Fault.{Fault}
+use Rattle.rules.specs.Refusals.{as_fault}
+use Rattle.rules.specs.declared.refusal.Fault.{Fault}
 use Rattle.model.specs.Layout.{job_of, instance_from, JobBounds}
 use Rattle.model.specs.declared.layout.Shape.{Shape}
 use Rattle.model.proofs.LayoutLaws.{job-bounds}

@@ -4,6 +4,7 @@ use mathlib.Core.Path.{◌≡◌, refl}
 use mathlib.Core.Bool.{Bool, true, false, cond, ◌&&◌}
 use mathlib.Core.List.{List, [], ◌∷◌}
 use mathlib.Core.Option.{none, some}
+use Rattle.std.specs.Prelude.{Option, Some, None}
 use native.Mathlib.Omega.{arith}
 use borrow.Author.Tests.{ne_eqb}
 use lib.ListN.{length, get_or}
@@ -14,8 +15,7 @@ use Rattle.rules.specs.InstanceText.{as_board, as_task, as_work, as_file, instan
 use Rattle.rules.specs.Limits.{task_numbers, processor_counts, memory_limits, run_times, work_sizes, in_range}
 use Rattle.rules.proofs.Tests.{by_order, and_no, and_yes}
 use Rattle.rules.specs.declared.Side.{Side}
-use Rattle.rules.specs.declared.Checked.{Checked}
-use Rattle.rules.specs.declared.Checked.TheVariants.{Within, OutOfRange}
+use Rattle.rules.specs.declared.Board.{Board}
 use Rattle.text.specs.FirstLine.{first_line}
 use Rattle.text.specs.Cut.{scan_ended, numbers_found_in, Cut}
 use Rattle.text.proofs.FirstLineLaws.{no_line, line-within, line-ended, line-unended}
@@ -23,12 +23,12 @@ use Rattle.text.proofs.CutLaws.{ended_some, ended-none, other-form, Taken, cut-t
 use Rattle.instance.specs.Lines.{first_says, said_by, NextLine}
 
 -- ---- the board, from the constructor's answer
-abbrev pub as_checked : Checked → Reading InstanceLine
-as_checked (Within b) = right (board_line (side_from b.blue) (side_from b.red))
-as_checked OutOfRange = wrong out_of_range
+abbrev pub as_checked : Option Board → Reading InstanceLine
+as_checked (Some b) = right (board_line (side_from b.blue) (side_from b.red))
+as_checked None = wrong out_of_range
 
 four-tests : (a b c d : Bool) (s t : Side)
-    → as_checked (cond ((a && b) && (c && d)) (Within (record { blue = s; red = t })) OutOfRange) ≡ if_in_range (a && b && c && d)
+    → as_checked (cond ((a && b) && (c && d)) (Some (record { blue = s; red = t })) None) ≡ if_in_range (a && b && c && d)
     (board_line (side_from s) (side_from t))
 four-tests false b c d s t = refl
 four-tests true false c d s t = refl

@@ -1,7 +1,7 @@
 -- What reading a sheet gives, as the rules have it.
 use Rattle.std.specs.Prelude.{ℕ, List}
 use Rattle.rules.specs.InstanceText as Text
-use Rattle.text.specs.Faults.{as_fault}
+use Rattle.rules.specs.Refusals.{as_fault}
 use Rattle.model.specs.Layout.{job_of, instance_from}
 use Rattle.instance.specs.declared.sheet.InstanceRead.{InstanceRead}
 use Rattle.instance.specs.declared.sheet.InstanceRead.TheVariants.{Accepted, Refused}

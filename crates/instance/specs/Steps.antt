@@ -3,7 +3,7 @@ use Rattle.std.specs.Prelude.{ℕ, ◌≤◌, List}
 use Rattle.rules.specs.Model.{Instance}
 use Rattle.rules.specs.Text.{Reading, wrong, right}
 use Rattle.rules.specs.Limits.{max_tasks, max_files}
-use Rattle.text.specs.Faults.{as_fault}
+use Rattle.rules.specs.Refusals.{as_fault}
 use Rattle.model.specs.Layout.{job_of, instance_from}
 use Rattle.model.specs.declared.layout.Shape.{Shape}
 use Rattle.instance.specs.declared.build.Step.{Step}

@@ -4,7 +4,7 @@ ghost use Rattle.rules.specs.Text.{due, or_undue, fault_of};
 ghost use Rattle.rules.specs.InstanceText.{task_line, file_line, ascends, file_allowed, with_board, with_line};
 ghost use Rattle.rules.specs.Limits.{task_numbers};
 ghost use Rattle.rules.specs.Promises.{In};
-ghost use Rattle.text.specs.Faults.{as_fault};
+ghost use Rattle.rules.specs.Refusals.{as_fault};
 ghost use Rattle.model.specs.Layout.{instance_of};
 ghost use Rattle.instance.specs.Lines.{as_reading, Numbered};
 ghost use Rattle.instance.specs.Steps.{Room, as_step, RoomIn};

@@ -5,7 +5,7 @@ ghost use Rattle.rules.specs.Text.{if_in_range};
 ghost use Rattle.rules.specs.InstanceText.{task_line, as_board, as_work, as_file};
 ghost use Rattle.instance.specs.Lines.{as_reading, said_by, NextLine};
 
-use rules::{Board, Checked, Side, between};
+use rules::{Board, Side, between};
 
 // The forms; `#` stands for a number. A task with W has the third.
 pub const BOARD_FORM: [u8; 28] = *b"(board (blue # #) (red # #))";
@@ -86,7 +86,7 @@ fn board_of(blue: u64, bound: u64, red: u64, limit: u64) -> Line
         processors: red,
         limit,
     };
-    let Checked::Within(board) = Board::new(first, second) else {
+    let Some(board) = Board::new(first, second) else {
         return Line::OutOfRange;
     };
     Line::Board { board }

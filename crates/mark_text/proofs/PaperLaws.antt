@@ -7,8 +7,8 @@ use Rattle.rules.specs.Validity.{refused_by, judge, Verdict}
 use Rattle.rules.specs.Text.{in_timetable, fault_number}
 use Rattle.rules.specs.ScheduleText.{read_schedule}
 use Rattle.rules.specs.Calls.{mark_read, mark_on}
-use Rattle.text.specs.declared.faults.Fault.{Fault}
-use Rattle.text.specs.Faults.{as_fault}
+use Rattle.rules.specs.declared.refusal.Fault.{Fault}
+use Rattle.rules.specs.Refusals.{as_fault}
 use Rattle.model.specs.declared.claim.Claim.{Claim}
 use Rattle.model.specs.Claims.{as_claim}
 use Rattle.schedule.specs.declared.reader.ScheduleRead.{ScheduleRead}

@@ -11,8 +11,8 @@ use Rattle.rules.specs.Validity.{Claim}
 use Rattle.rules.specs.Promises.{Spellable}
 use Rattle.rules.specs.ScheduleText.{ScheduleRead, refused, read, read_claim, read_moves, read_runs, read_schedule_by, read_schedule}
 use Rattle.rules.proofs.TimetableOnlyLaws.{read_only}
-use Rattle.text.specs.declared.faults.Fault.{Fault}
-use Rattle.text.specs.Faults.{as_fault}
+use Rattle.rules.specs.declared.refusal.Fault.{Fault}
+use Rattle.rules.specs.Refusals.{as_fault}
 use Rattle.model.specs.declared.layout.Shape.{Shape}
 use Rattle.model.specs.Layout.{Job, Entries, instance_from, schedule_from}
 use Rattle.schedule.specs.declared.reader.Progress.{Progress}

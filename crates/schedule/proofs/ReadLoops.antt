@@ -18,8 +18,8 @@ use Rattle.rules.specs.Validity.{Claim}
 use Rattle.rules.specs.ScheduleText.{ScheduleLine, run_of, move_of, ScheduleRead, refused, read}
 use Rattle.rules.specs.ScheduleText.{read_end_by, read_end, read_claim, read_moves_by, read_moves, read_runs_by, read_runs}
 use Rattle.rules.proofs.LineLaws.{no_lines}
-use Rattle.text.specs.declared.faults.Fault.{Fault as CodeFault}
-use Rattle.text.specs.Faults.{as_fault}
+use Rattle.rules.specs.declared.refusal.Fault.{Fault as CodeFault}
+use Rattle.rules.specs.Refusals.{as_fault}
 use Rattle.text.proofs.FirstLineLaws.{no_line}
 use Rattle.model.specs.declared.layout.Shape.{Shape}
 use Rattle.model.specs.Layout.{Job, Entries, entries_of, instance_from, schedule_from, JobBounds, schedule_length, with_run_at, with_move_at}

@@ -6,7 +6,7 @@ use Rattle.rules.specs.Model.{Instance, Schedule}
 use Rattle.rules.specs.Text.{Line, lines_of, Reading, wrong, right, malformed, due}
 use Rattle.rules.specs.ScheduleText as Rules
 use Rattle.rules.specs.ScheduleText.{ScheduleLine, schedule_line}
-use Rattle.text.specs.Faults.{as_fault}
+use Rattle.rules.specs.Refusals.{as_fault}
 use Rattle.model.specs.Layout.{Entries, run_from}
 use Rattle.schedule.specs.declared.reader.ScheduleRead.{ScheduleRead}
 use Rattle.schedule.specs.declared.reader.ScheduleRead.TheVariants as Answer

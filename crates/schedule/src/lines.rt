@@ -3,7 +3,7 @@ ghost use Rattle.std.specs.Prelude.{◌≡◌, ◌&&◌, [], ◌∷◌};
 ghost use Rattle.rules.specs.Text.{fault_of};
 ghost use Rattle.rules.specs.ScheduleText.{as_run, as_move, as_claim as claim_from};
 ghost use Rattle.model.specs.Layout.{Job, instance_from, Processors};
-ghost use Rattle.text.specs.Faults.{as_fault};
+ghost use Rattle.rules.specs.Refusals.{as_fault};
 ghost use Rattle.schedule.specs.Lines.{as_reading, said_by, NextLine};
 
 use model::claim::Claim;

@@ -9,8 +9,8 @@ use Rattle.rules.specs.Text.{in_timetable, fault_number}
 use Rattle.rules.specs.ScheduleText.{read_schedule}
 use Rattle.rules.specs.Simulation.{Simulation, watch, refused_text, simulate_read, simulate_on}
 use Rattle.rules.proofs.SimulatorLaws.{watch-capped}
-use Rattle.text.specs.declared.faults.Fault.{Fault}
-use Rattle.text.specs.Faults.{as_fault}
+use Rattle.rules.specs.declared.refusal.Fault.{Fault}
+use Rattle.rules.specs.Refusals.{as_fault}
 use Rattle.model.specs.declared.claim.Claim.{Claim}
 use Rattle.model.specs.Claims.{as_claim}
 use Rattle.schedule.specs.declared.reader.ScheduleRead.{ScheduleRead}

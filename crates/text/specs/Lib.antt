@@ -1,5 +1,4 @@
 -- What the contracts of this crate cite besides the definitions of `rules`.
-pub mod Faults
 pub mod FirstLine
 pub mod Numerals
 pub mod Cut

@@ -6,7 +6,8 @@ mod forms;
 mod lines;
 mod numerals;
 
-pub use faults::{Fault, sheet_number, timetable_number};
+pub use faults::{sheet_number, timetable_number};
 pub use forms::{form_size, line_by, line_size, write_form, write_line};
 pub use lines::line_at;
 pub use numerals::{number_size, write_number};
+pub use rules::Fault;

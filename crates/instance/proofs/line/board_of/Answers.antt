@@ -11,4 +11,4 @@ returns-in_default c =
 pub returns : goal.returns
 returns c =
     let a = c.args in
-    ap as_checked (sym c.in-Within.is ∙ c.new.ensures) ∙ board-checked a.blue a.bound a.red a.limit
+    ap as_checked (sym c.in-Some.is ∙ c.new.ensures) ∙ board-checked a.blue a.bound a.red a.limit
