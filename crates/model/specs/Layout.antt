@@ -193,6 +193,9 @@ pub record Bounds (b : Shape) (J : Job) (L : Entries) : Type 0 where
 abbrev pub JobInBounds : Shape → List ℕ → Type 0
 JobInBounds b job = JobBounds b (job_of job)
 
+abbrev pub ScheduleInBounds : Shape → List ℕ → Type 0
+ScheduleInBounds b schedule = ScheduleBounds b (entries_of schedule)
+
 abbrev pub InBounds : Shape → List ℕ → List ℕ → Type 0
 InBounds b job schedule = Bounds b (job_of job) (entries_of schedule)
 

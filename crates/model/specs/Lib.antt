@@ -4,3 +4,4 @@ pub mod Layout
 pub mod Costs
 pub mod Holds
 pub mod Claims
+pub mod Jobs
