@@ -1,13 +1,10 @@
-// The runs of a schedule as a list of records: `first_overlap` walks a lent slice of them and leaves the work to `scan_run`, and
-// `lowest_overlap` lends it the first runs of an array.
+// The runs of a schedule as a list of records: `first_overlap` walks a lent slice of them and leaves the work to `overlaps_any`.
 #![tactic(auto)]
 
-ghost use Rattle.std.specs.Prelude.{◌≡◌, ◌<◌, ◌≤◌, ltb, length};
-ghost use Rattle.rules.specs.Limits.{max_tasks};
+ghost use Rattle.std.specs.Prelude.{◌≡◌, ◌<◌, ltb, length, IsTrue, ◌↔◌, SomeIndex, get_or, true, IfSome};
+ghost use Rattle.std.specs.Option.{unwrap_or};
 ghost use Rattle.runs.specs.First.{FirstOverlap};
-ghost use Rattle.runs.specs.Scan.{overlapping, lowest_with, empty_scan, scan_run};
-
-use rules::Board;
+ghost use Rattle.runs.specs.Scan.{overlapping, overlaps_at, no_run};
 
 // A run of a task: on a processor, from its start until its finish.
 #[derive(Clone, Copy)]
@@ -15,14 +12,6 @@ pub struct Run {
     pub processor: u64,
     pub start: u64,
     pub finish: u64,
-}
-
-// The runs passed so far, and the lowest index among them whose run overlaps another's, or n where none does.
-#[derive(Clone, Copy)]
-struct Scan {
-    runs: [Run; Board::MAX_TASKS],
-    n: usize,
-    first: usize,
 }
 
 // Whether a starts before b's finish.
@@ -33,85 +22,29 @@ fn starts_before_finish(a: Run, b: Run) -> bool
 }
 
 // Whether two runs are on one processor and share an instant: each starts before the other's finish.
+#[tactic(auto, unfolding(crate::specs::Scan::overlapping))]
 pub fn overlapping_runs(a: Run, b: Run) -> bool
     ensures { result ≡ overlapping a b }
 {
-    if a.processor != b.processor {
-        return false;
-    }
-    if starts_before_finish(a, b) {
-        starts_before_finish(b, a)
-    } else {
-        false
-    }
+    a.processor == b.processor && starts_before_finish(a, b) && starts_before_finish(b, a)
 }
 
-// The lowest index once the run at n is passed too, where `other` is the lowest whose run overlaps it, or n.
-fn lowest(first: usize, n: usize, other: usize) -> usize
-    requires { n < max_tasks }
-    ensures { result ≡ lowest_with first n other }
+// Whether a run overlaps one of those behind it: the core's step, which `first_overlap` takes at each run.
+fn overlaps_any(later: &[Run], run: Run) -> bool
+    ensures { IsTrue result ↔ SomeIndex later.now (λ k. overlaps_at later.now run k ≡ true) }
 {
-    if other < n {
-        if other < first { other } else { first }
-    } else {
-        if first < n { first } else { n + 1 }
-    }
+    later.iter().any(|other| overlapping_runs(*other, run))
 }
 
-fn empty_scan() -> Scan
-    ensures { result ≡ empty_scan }
+// The thin function: it walks the lent runs, and leaves the work to `overlaps_any`. The lowest index whose run overlaps another's.
+pub fn first_overlap(runs: &[Run]) -> Option<usize>
+    ensures in_bounds { IfSome result (λ i. i < length runs.now) }
+    ensures lowest { FirstOverlap runs.now (length runs.now) (unwrap_or result (length runs.now)) }
 {
-    Scan {
-        runs: [Run {
-            processor: 0,
-            start: 0,
-            finish: 0,
-        }; Board::MAX_TASKS],
-        n: 0,
-        first: 0,
-    }
-}
-
-// One run more is compared with those passed, stored and counted, where there is room for it. The core's step, which
-// `first_overlap` takes at each run.
-fn scan_run(mut s: Scan, r: Run) -> Scan
-    ensures { result ≡ scan_run s r }
-{
-    let n = s.n;
-    if Board::MAX_TASKS <= n {
-        return s;
-    }
-    let mut other = 0;
-    while other < n {
-        if overlapping_runs(s.runs[other], r) {
-            break;
+    for (i, run) in runs.iter().enumerate() {
+        if overlaps_any(&runs[i + 1..], *run) {
+            return Some(i);
         }
-        other += 1;
     }
-    s.first = lowest(s.first, n, other);
-    s.runs[n] = r;
-    s.n = n + 1;
-    s
-}
-
-// The thin function: it walks the lent runs, and leaves the work to `scan_run`. Of at most `Board::MAX_TASKS` runs it gives the
-// lowest index whose run overlaps another's, or the length where no two overlap.
-pub fn first_overlap(runs: &[Run]) -> usize
-    ensures { length runs.now ≤ max_tasks → FirstOverlap runs.now (length runs.now) result }
-{
-    let mut scan = empty_scan();
-    let mut i = 0;
-    while i < runs.len() {
-        scan = scan_run(scan, runs[i]);
-        i += 1;
-    }
-    scan.first
-}
-
-// The lowest of the first n runs of the array that overlaps another of them, or n. They are lent as a slice.
-pub fn lowest_overlap(all: [Run; Board::MAX_TASKS], n: usize) -> usize
-    requires { n ≤ max_tasks }
-    ensures { FirstOverlap all n result }
-{
-    first_overlap(&all[..n])
+    None
 }

@@ -1,11 +1,14 @@
 -- One turn of each loop over the files or the tasks, and what it comes to after all of them; and what the accessors read.
-use Prim.Native.Nat.{ℕ, ◌+◌, ◌<◌, min}
+use Prim.Native.Nat.{ℕ, ◌+◌, ◌<◌, ◌≤◌, min}
 use mathlib.Core.Bool.{Bool, cond}
 use mathlib.Core.Path.{◌≡◌, sym, ap, ◌∙◌}
 use native.Mathlib.Omega.{arith}
 use native.Mathlib.Decide.{ℕ_discrete}
 use mathlib.Core.List.{List}
-use lib.ListN.{length, set}
+use lib.ListN.{length, set, take}
+use Rattle.std.specs.Prelude.{Option}
+use Rattle.std.specs.Option.{unwrap_or}
+use Rattle.std.proofs.lemmas.List.{get_or-take, length-take-le}
 use lib.Seq.{get_or-set_same, get_or-set_other}
 use Rattle.rules.specs.Count.{first_below}
 use Rattle.rules.specs.Model.{Instance, Schedule, task_count, file_count, finish_at}
@@ -45,8 +48,13 @@ module _ {b : Shape} {J : Job} {L : Entries} (f : Bounds b J L) where
     | no q ↦ get_or-set_other l n i r no_run q ∙ all i (omega arith)
   ]
 
-  pub overlap-total : (l : List Run) (r : ℕ) → Records I P b.tasks l → FirstOverlap l b.tasks r → r ≡ first_below (task_count I) (overlaps I P)
-  overlap-total l r all F = lowest-overlapping I P l (rw (task-count b J) all) r (rw (task-count b J) F)
+  -- the first runs of the list, as they are lent
+  pub overlap-total : (l : List Run) (o : Option ℕ) → Records I P b.tasks l → b.tasks ≤ length l
+      → FirstOverlap (take b.tasks l) (length (take b.tasks l)) (unwrap_or o (length (take b.tasks l)))
+      → unwrap_or o b.tasks ≡ first_below (task_count I) (overlaps I P)
+  overlap-total l o all h F =
+      let lent : Records I P b.tasks (take b.tasks l) = λ i m. get_or-take b.tasks l i no_run m ∙ all i m in
+      lowest-overlapping I P (take b.tasks l) (rw (task-count b J) lent) (unwrap_or o b.tasks) (rw (task-count b J) (rw (length-take-le b.tasks l h) at F))
 
   -- ---- 16
 

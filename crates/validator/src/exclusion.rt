@@ -64,5 +64,5 @@ pub fn first_overlapping<'a>(
         (overlaps (instance_of shape job.now) (schedule_of shape schedule.now)) }
 {
     let all = all_runs(shape, job, schedule);
-    runs::lowest_overlap(all, shape.tasks)
+    runs::first_overlap(&all[..shape.tasks]).unwrap_or(shape.tasks)
 }
