@@ -36,8 +36,8 @@ fn push(numbers: &mut [u64; CAPACITY], n: usize, h: Hold, size: u64) -> usize
 // Puts the changes of the files behind the first `start` numbers.
 fn push_files<'a>(
     shape: Shape,
-    job: &'a [u64; layout::JOB],
-    schedule: &'a [u64; layout::SCHEDULE],
+    job: &'a layout::Numbers,
+    schedule: &'a layout::Schedule,
     colour: Colour,
     numbers: &mut [u64; CAPACITY],
     start: usize,
@@ -61,8 +61,8 @@ fn push_files<'a>(
 // Puts the changes of the tasks' working memory behind the first `start` numbers.
 fn push_work<'a>(
     shape: Shape,
-    job: &'a [u64; layout::JOB],
-    schedule: &'a [u64; layout::SCHEDULE],
+    job: &'a layout::Numbers,
+    schedule: &'a layout::Schedule,
     colour: Colour,
     numbers: &mut [u64; CAPACITY],
     start: usize,
@@ -86,8 +86,8 @@ fn push_work<'a>(
 // Leaves the changes of the memory of the colour in the array, in time order, whatever it held before, and returns how many there are.
 pub fn sorted_changes<'a>(
     shape: Shape,
-    job: &'a [u64; layout::JOB],
-    schedule: &'a [u64; layout::SCHEDULE],
+    job: &'a layout::Numbers,
+    schedule: &'a layout::Schedule,
     colour: Colour,
     numbers: &mut [u64; CAPACITY],
 ) -> usize

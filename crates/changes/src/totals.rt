@@ -78,8 +78,8 @@ pub fn walk(numbers: &[u64; CAPACITY], n: usize, limit: u64) -> Totals
 // The totals of the memory of the colour.
 pub fn totals_of<'a>(
     shape: Shape,
-    job: &'a [u64; layout::JOB],
-    schedule: &'a [u64; layout::SCHEDULE],
+    job: &'a layout::Numbers,
+    schedule: &'a layout::Schedule,
     colour: Colour,
     limit: u64,
 ) -> Totals

@@ -11,45 +11,46 @@ use Rattle.rules.specs.Model.{Instance, Schedule, Run}
 use Rattle.rules.specs.Conversion.{added_count, stripped}
 use Rattle.rules.proofs.CountLaws.{list-cong}
 use Rattle.model.specs.declared.layout.Shape.{Shape}
-use Rattle.model.specs.Layout.{entries_of, run_from, schedule_from, schedule_of, schedule_length, with_run_at, with_move_at}
-use Rattle.model.proofs.WriteLaws.{runs-stored, run-moves, moves-stored, move-runs}
+use Rattle.model.specs.declared.layout.Schedule.{Schedule as StoredSchedule}
+use Rattle.model.specs.Layout.{entries_of, run_from, schedule_from, schedule_of, WholeSchedule, with_run_at, with_move_at}
+use Rattle.model.proofs.WriteLaws.{runs-stored, moves-stored}
 use Rattle.conversion.specs.Widened.{widened}
 use Rattle.conversion.specs.Kept.{Kept}
 use Rattle.conversion.proofs.ListLaws.{list-more, list-drop}
 
-pub kept-none : (m : ℕ) (from to : List ℕ) → Kept m from to 0 0
+pub kept-none : (m : ℕ) (from to : StoredSchedule) → Kept m from to 0 0
 unfolding list_below
 kept-none m from to = record { runs = refl; moves = refl }
 
 -- by equal counts
-pub kept_at : {m : ℕ} {from to : List ℕ} {n k n' k' : ℕ} → Kept m from to n k → n ≡ n' → k ≡ k' → Kept m from to n' k'
+pub kept_at : {m : ℕ} {from to : StoredSchedule} {n k n' k' : ℕ} → Kept m from to n k → n ≡ n' → k ≡ k' → Kept m from to n' k'
 kept_at s p q = rw (← p, ← q) s
 
 -- one run, or one move, more
-module _ {m : ℕ} {from to : List ℕ} {n k : ℕ} (s : Kept m from to n k) (long : length to ≡ schedule_length) {next : List ℕ} where
+module _ {m : ℕ} {from to : StoredSchedule} {n k : ℕ} (s : Kept m from to n k) (long : WholeSchedule to) {next : StoredSchedule} where
   pub run_more : n < max_tasks → {p t : ℕ} → p ≡ (entries_of from).processor (m + n) → t ≡ (entries_of from).start (m + n) → next ≡ with_run_at to n p t
       → Kept m from next (n + 1) k
   run_more h {p} {t} d e w =
       let run : record { processor = p; start = t } ≡ run_from (entries_of from) (m + n) = rw (d, e) in
       rw w
       (record {
-        runs = list-more n _ (rw (add-one n) (runs-stored to long h p t)) s.runs run;
-        moves = list-cong k _ _ (λ j l. run-moves to h p t j) ∙ s.moves;
+        runs = list-more n _ (rw (add-one n) (runs-stored to (omega (arith, long.0)) p t)) s.runs run;
+        moves = s.moves;
       })
 
   pub move-more : n ≤ max_tasks → k < max_files → {t : ℕ} → t ≡ (entries_of from).move_start (m + k) → next ≡ with_move_at to k t → Kept m from next n (k + 1)
   move-more few h {t} e w =
       rw w
       (record {
-        runs = list-cong n _ _ (λ i l. move-runs to h t i (omega arith)) ∙ s.runs;
-        moves = list-more k _ (rw (add-one k) (moves-stored to long h t)) s.moves e;
+        runs = s.runs;
+        moves = list-more k _ (rw (add-one k) (moves-stored to (omega (arith, long.1)) t)) s.moves e;
       })
 
 with-parts : List Run → List ℕ → Schedule
 with-parts runs moves = record { runs = runs; moves = moves }
 
 -- with all runs and moves it is the stripped schedule
-pub kept-all : (b : Shape) (m : ℕ) (from to : List ℕ) → Kept m from to b.tasks b.files
+pub kept-all : (b : Shape) (m : ℕ) (from to : StoredSchedule) → Kept m from to b.tasks b.files
     → (I : Instance) → added_count I ≡ m → schedule_of b to ≡ stripped I (schedule_of (widened b m) from)
 unfolding schedule_from stripped with-parts
 kept-all b m from to s I e =

@@ -10,7 +10,7 @@ use model::layout;
 use model::layout::Shape;
 
 // How many tasks have W: document 02's m.
-pub fn added(shape: Shape, job: &[u64; layout::JOB]) -> usize
+pub fn added(shape: Shape, job: &layout::Numbers) -> usize
     requires { shape.tasks ≤ max_tasks }
     ensures value { result ≡ added_count (instance_of shape job.now) }
     ensures upper_bound { result ≤ shape.tasks }

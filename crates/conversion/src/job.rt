@@ -13,7 +13,7 @@ use model::layout;
 use model::layout::Shape;
 
 // The added tasks, of times 0 and 0.
-fn add_tasks(added: usize, target: &mut [u64; layout::JOB])
+fn add_tasks(added: usize, target: &mut layout::Numbers)
     requires { added ≤ max_tasks }
     ensures { (I : Instance) → added ≡ added_count I → Stored I target.new added 0 }
 {
@@ -27,11 +27,11 @@ fn add_tasks(added: usize, target: &mut [u64; layout::JOB])
 // Task i, without its W, and the file that the W becomes: file k, made by the added task k. Returns how many files are then stored.
 fn convert_task(
     shape: Shape,
-    job: &[u64; layout::JOB],
+    job: &layout::Numbers,
     added: usize,
     i: usize,
     k: usize,
-    target: &mut [u64; layout::JOB],
+    target: &mut layout::Numbers,
 ) -> usize
     requires added_value { added ≡ added_count (instance_of shape job.now) }
     requires tasks_bound { added + shape.tasks ≤ max_tasks }
@@ -53,12 +53,7 @@ fn convert_task(
 }
 
 // All tasks, and the added files.
-fn convert_tasks(
-    shape: Shape,
-    job: &[u64; layout::JOB],
-    added: usize,
-    target: &mut [u64; layout::JOB],
-)
+fn convert_tasks(shape: Shape, job: &layout::Numbers, added: usize, target: &mut layout::Numbers)
     requires added_value { added ≡ added_count (instance_of shape job.now) }
     requires tasks_bound { added + shape.tasks ≤ max_tasks }
     requires stored { Stored (instance_of shape job.now) target.old added 0 }
@@ -75,10 +70,10 @@ fn convert_tasks(
 // File k, with both its tasks shifted.
 fn convert_file(
     shape: Shape,
-    job: &[u64; layout::JOB],
+    job: &layout::Numbers,
     added: usize,
     k: usize,
-    target: &mut [u64; layout::JOB],
+    target: &mut layout::Numbers,
 )
     requires job_in_bounds { JobInBounds shape job.now }
     requires added_value { added ≡ added_count (instance_of shape job.now) }
@@ -96,12 +91,7 @@ fn convert_file(
 }
 
 // All files.
-fn convert_files(
-    shape: Shape,
-    job: &[u64; layout::JOB],
-    added: usize,
-    target: &mut [u64; layout::JOB],
-)
+fn convert_files(shape: Shape, job: &layout::Numbers, added: usize, target: &mut layout::Numbers)
     requires job_in_bounds { JobInBounds shape job.now }
     requires added_value { added ≡ added_count (instance_of shape job.now) }
     requires tasks_bound { (added + shape.tasks ≤ max_tasks) × (added + shape.files ≤ max_files) }
@@ -116,12 +106,7 @@ fn convert_files(
 }
 
 // Writes the converted job, whatever the target held.
-pub fn convert(
-    shape: Shape,
-    job: &[u64; layout::JOB],
-    added: usize,
-    target: &mut [u64; layout::JOB],
-)
+pub fn convert(shape: Shape, job: &layout::Numbers, added: usize, target: &mut layout::Numbers)
     requires job_in_bounds { JobInBounds shape job.now }
     requires added_value { added ≡ added_count (instance_of shape job.now) }
     requires tasks_bound { (added + shape.tasks ≤ max_tasks) × (added + shape.files ≤ max_files) }

@@ -11,12 +11,7 @@ use model::layout;
 use model::layout::Shape;
 
 // The runs: that of task i is the run of task added + i.
-fn strip_runs(
-    shape: Shape,
-    added: usize,
-    from: &[u64; layout::SCHEDULE],
-    to: &mut [u64; layout::SCHEDULE],
-)
+fn strip_runs(shape: Shape, added: usize, from: &layout::Schedule, to: &mut layout::Schedule)
     requires { added + shape.tasks ≤ max_tasks }
     ensures { Kept added from.now to.new shape.tasks 0 }
 {
@@ -30,12 +25,7 @@ fn strip_runs(
 }
 
 // The moves, likewise.
-fn strip_moves(
-    shape: Shape,
-    added: usize,
-    from: &[u64; layout::SCHEDULE],
-    to: &mut [u64; layout::SCHEDULE],
-)
+fn strip_moves(shape: Shape, added: usize, from: &layout::Schedule, to: &mut layout::Schedule)
     requires tasks_le_max_tasks { (shape.tasks ≤ max_tasks) × (added + shape.files ≤ max_files) }
     requires kept { Kept added from.now to.old shape.tasks 0 }
     ensures { Kept added from.now to.new shape.tasks shape.files }
@@ -49,12 +39,7 @@ fn strip_moves(
 }
 
 // Writes what is left of the schedule, whatever the second array held.
-pub fn strip(
-    shape: Shape,
-    added: usize,
-    from: &[u64; layout::SCHEDULE],
-    to: &mut [u64; layout::SCHEDULE],
-)
+pub fn strip(shape: Shape, added: usize, from: &layout::Schedule, to: &mut layout::Schedule)
     requires { (added + shape.tasks ≤ max_tasks) × (added + shape.files ≤ max_files) }
     ensures { (I : Instance) → added_count I ≡ added →
         schedule_of shape to.new ≡ stripped I (schedule_of (widened shape added) from.now) }

@@ -14,7 +14,7 @@ use model::layout::Shape;
 use plan_text::Answer;
 
 // Writes an instance's sheet, if the buffer is long enough.
-fn write_sheet(shape: Shape, job: &[u64; layout::JOB], out: &mut [u8]) -> Converted
+fn write_sheet(shape: Shape, job: &layout::Numbers, out: &mut [u8]) -> Converted
     requires { JobInBounds shape job.now }
     ensures { as_output result out.new ≡ output (instance_text (instance_of shape job.now)) out.old }
 {
@@ -33,7 +33,7 @@ fn write_sheet(shape: Shape, job: &[u64; layout::JOB], out: &mut [u8]) -> Conver
 }
 
 // The converter on the instance of an accepted board sheet.
-pub fn convert_instance(shape: Shape, job: &[u64; layout::JOB], out: &mut [u8]) -> Converted
+pub fn convert_instance(shape: Shape, job: &layout::Numbers, out: &mut [u8]) -> Converted
     requires { WellFormed (instance_of shape job.now) }
     ensures { as_output result out.new ≡ convert_on (instance_of shape job.now) out.old }
 {
@@ -42,7 +42,7 @@ pub fn convert_instance(shape: Shape, job: &[u64; layout::JOB], out: &mut [u8]) 
     if number != 0 {
         return Converted { number, place: 0 };
     }
-    let mut wide = [0; layout::JOB];
+    let mut wide = layout::Numbers::new();
     convert(shape, job, more, &mut wide);
     write_sheet(widened(shape, more), &wide, out)
 }

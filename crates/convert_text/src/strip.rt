@@ -24,11 +24,7 @@ use plan_text::write_plan;
 use validator::memory::walk_memories;
 
 // What a schedule free of 16 has to claim: its makespan, and its peaks as the marker finds them.
-fn true_claim<'a>(
-    shape: Shape,
-    job: &'a [u64; layout::JOB],
-    schedule: &'a [u64; layout::SCHEDULE],
-) -> Claim
+fn true_claim<'a>(shape: Shape, job: &'a layout::Numbers, schedule: &'a layout::Schedule) -> Claim
     requires well_formed { WellFormed (instance_of shape job.now) }
     requires in_bounds { InBounds shape job.now schedule.now }
     requires placed { Placed shape (entries_of schedule.now) }
@@ -46,9 +42,9 @@ fn true_claim<'a>(
 // Writes what is left of a schedule of the converted job, with its true claim, if the buffer is long enough.
 fn write_left<'a>(
     shape: Shape,
-    job: &'a [u64; layout::JOB],
+    job: &'a layout::Numbers,
     more: usize,
-    schedule: &'a [u64; layout::SCHEDULE],
+    schedule: &'a layout::Schedule,
     out: &mut [u8],
 ) -> Converted
     requires well_formed { WellFormed (instance_of shape job.now) }
@@ -60,7 +56,7 @@ fn write_left<'a>(
     ensures { as_output result out.new ≡
         output (stripped_text (instance_of shape job.now) (schedule_of (widened-shape shape more) schedule.now)) out.old }
 {
-    let mut left = [0; layout::SCHEDULE];
+    let mut left = layout::Schedule::new();
     strip(shape, more, schedule, &mut left);
     let claim = true_claim(shape, job, &left);
     let a = write_plan(shape, job, &left, claim, 0, out);
@@ -73,7 +69,7 @@ fn write_left<'a>(
 // What is left of a timetable of the converted job, or the marker's refusal of it.
 fn strip_marked<'a>(
     shape: Shape,
-    job: &'a [u64; layout::JOB],
+    job: &'a layout::Numbers,
     more: usize,
     paper: &'a [u8],
     out: &mut [u8],
@@ -85,9 +81,9 @@ fn strip_marked<'a>(
         strip_read (instance_of shape job.now) out.old
         (read_schedule (converted (instance_of shape job.now)) paper.now) }
 {
-    let mut wide = [0; layout::JOB];
+    let mut wide = layout::Numbers::new();
     convert(shape, job, more, &mut wide);
-    let mut schedule = [0; layout::SCHEDULE];
+    let mut schedule = layout::Schedule::new();
     let v = mark_into(widened(shape, more), &wide, paper, &mut schedule);
     if v.number != 0 {
         return Converted {
@@ -101,7 +97,7 @@ fn strip_marked<'a>(
 // The stripper on the instance of an accepted board sheet, and a timetable of the converted one.
 pub fn strip_paper<'a>(
     shape: Shape,
-    job: &'a [u64; layout::JOB],
+    job: &'a layout::Numbers,
     paper: &'a [u8],
     out: &mut [u8],
 ) -> Converted

@@ -22,6 +22,7 @@ use Rattle.rules.proofs.StripLaws.{Strips, by_mark, leaves, strips, strip-refuse
 use Rattle.rules.specs.declared.refusal.Fault.{Fault}
 use Rattle.rules.specs.Refusals.{as_fault}
 use Rattle.model.specs.declared.layout.Shape.{Shape}
+use Rattle.model.specs.declared.layout.Numbers.{Numbers}
 use Rattle.model.specs.Layout.{job_of, instance_from}
 use Rattle.instance.specs.declared.sheet.InstanceRead.{InstanceRead}
 use Rattle.instance.specs.declared.sheet.InstanceRead.TheVariants as SheetRead
@@ -112,7 +113,7 @@ module _ (sheet paper buffer : List ℕ) where
 
 -- ---- by what was read of the board sheet
 
-module _ (sheet xs : List ℕ) (r : InstanceRead) (read : as_read r xs ≡ read_instance sheet) where
+module _ (sheet : List ℕ) (xs : Numbers) (r : InstanceRead) (read : as_read r xs ≡ read_instance sheet) where
   module _ (buffer : List ℕ) where
     pub converted-on : {b : Shape} {a : Output} → r ≡ SheetRead.Accepted b → a ≡ convert_on (instance_from b (job_of xs)) buffer → a ≡ convert sheet buffer
     converted-on e q = q ∙ sym (convert-accepted sheet buffer _ (read-accepted sheet r xs read _ e))

@@ -15,6 +15,7 @@ use Rattle.rules.specs.Calls.{mark_on, mark_by, mark, line_at, fault_line}
 use Rattle.rules.specs.declared.refusal.Fault.{Fault}
 use Rattle.rules.specs.Refusals.{as_fault}
 use Rattle.model.specs.declared.layout.Shape.{Shape}
+use Rattle.model.specs.declared.layout.Numbers.{Numbers}
 use Rattle.model.specs.Layout.{job_of, instance_from}
 use Rattle.instance.specs.declared.sheet.InstanceRead.{InstanceRead}
 use Rattle.instance.specs.declared.sheet.InstanceRead.TheVariants as SheetRead
@@ -35,7 +36,7 @@ mark-accepted sheet timetable I e = by_read (read_schedule I timetable) refl
     by_read (Paper.refused w k) f = rw (e, f, mark_by)
     by_read (Paper.read P c) f = rw (e, f, mark_by)
 
-module _ (sheet timetable xs : List ℕ) (r : InstanceRead) (read : as_instance r xs ≡ read_instance sheet) where
+module _ (sheet timetable : List ℕ) (xs : Numbers) (r : InstanceRead) (read : as_instance r xs ≡ read_instance sheet) where
   pub marked-on : {b : Shape} {v : Verdict} → r ≡ SheetRead.Accepted b → v ≡ mark_on (instance_from b (job_of xs)) timetable → v ≡ mark sheet timetable
   marked-on e q = q ∙ sym (mark-accepted sheet timetable _ (read-accepted sheet r xs read _ e))
 

@@ -14,6 +14,7 @@ use Rattle.rules.proofs.PlannerLaws.{plan-refused, plan-stuck, plan-complete}
 use Rattle.rules.specs.declared.refusal.Fault.{Fault}
 use Rattle.rules.specs.Refusals.{as_fault}
 use Rattle.model.specs.declared.layout.Shape.{Shape}
+use Rattle.model.specs.declared.layout.Numbers.{Numbers}
 use Rattle.model.specs.Layout.{job_of, instance_from}
 use Rattle.instance.specs.declared.sheet.InstanceRead.{InstanceRead}
 use Rattle.instance.specs.declared.sheet.InstanceRead.TheVariants as SheetRead
@@ -28,7 +29,7 @@ plan-on R sheet buffer I e = by-outcome (outcome R I) refl
     by-outcome (Rules.stuck k trials) o = plan-stuck R sheet buffer I k trials e o ∙ sym (ap (plan_made I buffer) o)
     by-outcome (Rules.complete P trials) o = plan-complete R sheet buffer I P trials e o ∙ sym (ap (plan_made I buffer) o)
 
-module _ (R : Planner) (sheet buffer xs : List ℕ) (r : InstanceRead) (read : as_read r xs ≡ read_instance sheet) where
+module _ (R : Planner) (sheet buffer : List ℕ) (xs : Numbers) (r : InstanceRead) (read : as_read r xs ≡ read_instance sheet) where
   pub planned-on : {b : Shape} {a : Calls.Answer} → r ≡ SheetRead.Accepted b → a ≡ plan_on R (instance_from b (job_of xs)) buffer → a ≡ plan R sheet buffer
   planned-on e q = q ∙ sym (plan-on R sheet buffer _ (read-accepted sheet r xs read _ e))
 

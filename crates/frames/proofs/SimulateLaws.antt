@@ -13,6 +13,7 @@ use Rattle.rules.proofs.SimulatorLaws.{simulate-sheet}
 use Rattle.rules.specs.declared.refusal.Fault.{Fault}
 use Rattle.rules.specs.Refusals.{as_fault}
 use Rattle.model.specs.declared.layout.Shape.{Shape}
+use Rattle.model.specs.declared.layout.Numbers.{Numbers}
 use Rattle.model.specs.Layout.{job_of, instance_from}
 use Rattle.instance.specs.declared.sheet.InstanceRead.{InstanceRead}
 use Rattle.instance.specs.declared.sheet.InstanceRead.TheVariants as SheetRead
@@ -28,7 +29,7 @@ simulate-accepted sheet timetable made steps I e = by_read (read_schedule I time
     by_read (Paper.refused w k) f = rw (e, f, simulate_by)
     by_read (Paper.read P c) f = rw (e, f, simulate_by)
 
-module _ (sheet timetable : List ℕ) (made steps : ℕ) (xs : List ℕ) (r : InstanceRead) (read : as_instance r xs ≡ read_instance sheet) {a : Simulation} where
+module _ (sheet timetable : List ℕ) (made steps : ℕ) (xs : Numbers) (r : InstanceRead) (read : as_instance r xs ≡ read_instance sheet) {a : Simulation} where
   pub simulated-on : {b : Shape} → r ≡ SheetRead.Accepted b → a ≡ simulate_on (instance_from b (job_of xs)) timetable made steps
       → a ≡ simulate sheet timetable made steps
   simulated-on e q = q ∙ sym (simulate-accepted sheet timetable made steps _ (read-accepted sheet r xs read _ e))

@@ -14,7 +14,7 @@ pub fn convert(sheet: &[u8], out: &mut [u8]) -> Converted
     ensures answer { as_output result out.new ≡ rules-convert sheet.now out.old }
     ensures converter_demands { ConverterDemands sheet.now out.old (as_output result out.new) }
 {
-    let mut job = [0; layout::JOB];
+    let mut job = layout::Numbers::new();
     match instance::read(sheet, &mut job) {
         InstanceRead::Refused(fault, line) => Converted {
             number: text::sheet_number(fault),
@@ -29,7 +29,7 @@ pub fn strip<'a>(sheet: &'a [u8], paper: &'a [u8], out: &mut [u8]) -> Converted
     ensures answer { as_output result out.new ≡ rules-strip sheet.now paper.now out.old }
     ensures stripper_demands { StripperDemands sheet.now paper.now out.old (as_output result out.new) }
 {
-    let mut job = [0; layout::JOB];
+    let mut job = layout::Numbers::new();
     match instance::read(sheet, &mut job) {
         InstanceRead::Refused(fault, line) => Converted {
             number: text::sheet_number(fault),

@@ -15,7 +15,7 @@ pub fn mark<'a>(sheet: &'a [u8], paper: &'a [u8]) -> Verdict
     ensures answer { as_verdict result ≡ rules-mark sheet.now paper.now }
     ensures marker_demands { MarkerDemands sheet.now paper.now (as_verdict result) }
 {
-    let mut job = [0; layout::JOB];
+    let mut job = layout::Numbers::new();
     match instance::read(sheet, &mut job) {
         InstanceRead::Refused(fault, line) => Verdict::refused(text::sheet_number(fault), line),
         InstanceRead::Accepted(shape) => mark_paper(shape, &job, paper),

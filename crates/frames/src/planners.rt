@@ -16,7 +16,7 @@ use starts::memory::Memory;
 fn plan_sheet(rule: Rule, sheet: &[u8], out: &mut [u8]) -> Answer
     ensures { as_answer result out.new ≡ rules-plan (as_planner rule) sheet.now out.old }
 {
-    let mut job = [0; layout::JOB];
+    let mut job = layout::Numbers::new();
     match instance::read(sheet, &mut job) {
         InstanceRead::Refused(fault, line) => Answer {
             number: text::sheet_number(fault),

@@ -14,7 +14,7 @@ pub fn simulate<'a>(sheet: &'a [u8], paper: &'a [u8], made: u64, steps: u64) -> 
     ensures answer { as_simulation result ≡ rules-simulate sheet.now paper.now made steps }
     ensures simulator_demands { SimulatorDemands sheet.now paper.now made steps (as_simulation result) }
 {
-    let mut job = [0; layout::JOB];
+    let mut job = layout::Numbers::new();
     match instance::read(sheet, &mut job) {
         InstanceRead::Refused(fault, line) => {
             Simulation::refused(text::sheet_number(fault), line)

@@ -27,7 +27,7 @@ fn holds(colour: Colour, held: u64) -> bool
 // The sizes together of the files that the memory of the colour holds.
 fn total<'a>(
     shape: Shape,
-    job: &'a [u64; layout::JOB],
+    job: &'a layout::Numbers,
     contents: &'a [u64; Board::MAX_FILES],
     colour: Colour,
 ) -> u64
@@ -66,7 +66,7 @@ fn with_file(
     rt: &impl Print,
     line: Line,
     shape: Shape,
-    job: &[u64; layout::JOB],
+    job: &layout::Numbers,
     colour: Colour,
     k: usize,
     held: u64,
@@ -93,7 +93,7 @@ fn files<'a>(
     rt: &impl Print,
     line: Line,
     shape: Shape,
-    job: &'a [u64; layout::JOB],
+    job: &'a layout::Numbers,
     contents: &'a [u64; Board::MAX_FILES],
     colour: Colour,
     hang: usize,
@@ -125,7 +125,7 @@ pub fn show<'a>(
     rt: &impl Print,
     line: Line,
     shape: Shape,
-    job: &'a [u64; layout::JOB],
+    job: &'a layout::Numbers,
     contents: &'a [u64; Board::MAX_FILES],
     colour: Colour,
 ) -> Line

@@ -66,7 +66,7 @@ fn side(
     rt: &impl Print,
     line: Line,
     shape: Shape,
-    job: &[u64; layout::JOB],
+    job: &layout::Numbers,
     state: Simulation,
     colour: Colour,
 ) -> Line
@@ -89,7 +89,7 @@ pub fn show(
     rt: &impl Print,
     line: Line,
     shape: Shape,
-    job: &[u64; layout::JOB],
+    job: &layout::Numbers,
     state: Simulation,
 ) -> Line
     requires used_value { line.used ≡ 0 }

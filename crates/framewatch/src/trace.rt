@@ -28,7 +28,7 @@ fn print_heading(rt: &impl Print, shape: Shape) -> Result<()>
 }
 
 // Whether a task has working memory.
-fn has_work(shape: Shape, job: &[u64; layout::JOB]) -> bool
+fn has_work(shape: Shape, job: &layout::Numbers) -> bool
     requires { JobInBounds shape job.now }
     ensures { result ≡ any_below shape.tasks (λ i. ltb 0 ((job_of job.now).work i)) }
 {
@@ -43,7 +43,7 @@ fn has_work(shape: Shape, job: &[u64; layout::JOB]) -> bool
 }
 
 // That working memory is not shown, if a task has it. Fails where it cannot be written.
-fn print_note(rt: &impl Print, shape: Shape, job: &[u64; layout::JOB]) -> Result<()>
+fn print_note(rt: &impl Print, shape: Shape, job: &layout::Numbers) -> Result<()>
     requires { JobInBounds shape job.now }
 {
     if has_work(shape, job) {
@@ -93,7 +93,7 @@ fn print_end(rt: &impl Print, progress: Progress, made: u64) -> Result<()> {
 fn print_step(
     rt: &impl Print,
     shape: Shape,
-    job: &[u64; layout::JOB],
+    job: &layout::Numbers,
     state: Simulation,
 ) -> Result<()>
     requires { JobInBounds shape job.now }
@@ -107,7 +107,7 @@ fn print_steps<'a>(
     sheet: &'a [u8],
     paper: &'a [u8],
     shape: Shape,
-    job: &'a [u64; layout::JOB],
+    job: &'a layout::Numbers,
     first: Simulation,
     steps: u64,
 ) -> Result<()>
@@ -135,7 +135,7 @@ fn print_trace<'a>(
     sheet: &'a [u8],
     paper: &'a [u8],
     shape: Shape,
-    job: &'a [u64; layout::JOB],
+    job: &'a layout::Numbers,
     first: Simulation,
     steps: u64,
 ) -> Result<()>
@@ -154,7 +154,7 @@ pub fn show<'a>(
     made: u64,
     steps: u64,
 ) -> Result<()> {
-    let mut job = [0; layout::JOB];
+    let mut job = layout::Numbers::new();
     let InstanceRead::Accepted(shape) = instance::read(sheet, &mut job) else {
         return print_marks(rt, sheet, paper);
     };

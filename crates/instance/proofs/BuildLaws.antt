@@ -17,8 +17,9 @@ use Rattle.rules.specs.InstanceText.{task_line, file_line, ascends, file_allowed
 use Rattle.rules.specs.declared.Board.{Board}
 use Rattle.rules.proofs.Tests.{and_no}
 use Rattle.rules.proofs.ReadingLaws.{and-true-4}
-use Rattle.model.specs.Layout.{Job, job_of, instance_from, job_length, with_task_at, with_file_at}
+use Rattle.model.specs.Layout.{Job, job_of, instance_from, Whole, with_task_at, with_file_at}
 use Rattle.model.specs.declared.layout.Shape.{Shape}
+use Rattle.model.specs.declared.layout.Numbers.{Numbers}
 use Rattle.model.proofs.LayoutLaws.{file-count, task-count, maker-at, reader_at}
 use Rattle.model.proofs.WriteLaws.{task-stored, file-stored}
 use Rattle.instance.specs.declared.line.Line.{Line}
@@ -92,14 +93,14 @@ module _ (b : Shape) (J : Job) where
       (ltb-true _ _ t.0, omega (arith, ltb-true (file_count I) max_files t.3, file-count b J))
 
 -- ---- what is taken
-module _ (b : Shape) (xs : List ℕ) (long : length xs ≡ job_length) {ys : List ℕ} where
+module _ (b : Shape) (xs : Numbers) (long : Whole xs) {ys : Numbers} where
   pub task-taken : (i u v w : ℕ) → b.tasks < max_tasks → b.files ≡ 0 → i ≡ b.tasks + 1 → ys ≡ with_task_at xs b.tasks u v w
       → right (instance_from (record { tasks = b.tasks + 1; files = b.files; board = b.board }) (job_of ys))
       ≡ or_undue (with_line (instance_from b (job_of xs)) (task_line i (record { on_blue = u; on_red = v; work = w })))
-  task-taken i u v w h z e q = rw (task-next b (job_of xs) i z e, q) (ap right (task-stored b xs long h u v w))
+  task-taken i u v w h z e q = rw (task-next b (job_of xs) i z e, q) (ap right (task-stored b xs (omega (arith, long.0)) u v w))
 
   pub file-taken : (i j f c : ℕ) → b.tasks ≤ max_tasks → file_allowed (instance_from b (job_of xs)) i j ≡ true → ys ≡ with_file_at xs b.files (i - 1) (j - 1) f c
       → right (instance_from (record { tasks = b.tasks; files = b.files + 1; board = b.board }) (job_of ys))
       ≡ or_undue (with_line (instance_from b (job_of xs)) (file_line i j f c))
   file-taken i j f c t e w =
-      rw (e, w, ← sub-one, ← sub-one) (ap right (file-stored b xs long t (file-room b (job_of xs) i j e).1 (i - 1) (j - 1) f c))
+      rw (e, w, ← sub-one, ← sub-one) (ap right (file-stored b xs (omega (arith, long.1, (file-room b (job_of xs) i j e).1)) (i - 1) (j - 1) f c))

@@ -16,6 +16,7 @@ use Rattle.rules.proofs.LineLaws.{no_lines}
 use Rattle.rules.proofs.InstanceLineLaws.{line-says}
 use Rattle.text.specs.FirstLine.{first_line}
 use Rattle.text.proofs.FirstLineLaws.{no_line, line-part}
+use Rattle.model.specs.declared.layout.Numbers.{Numbers}
 use Rattle.model.specs.Layout.{job_of, instance_from}
 use Rattle.model.specs.declared.layout.Shape.{Shape}
 use Rattle.model.proofs.LayoutLaws.{task-count}
@@ -37,7 +38,7 @@ pub line-held : {text line found : List ℕ} → NextLine text line found → (l
 line-held o h = o.taken (omega arith)
 
 -- what a step gave, of the line's bytes
-pub told : (f : InstanceLine → Option Instance) (p : Parsed) (l : List ℕ) (step known : Step) (ys : List ℕ) → as_reading p ≡ instance_line (ended l)
+pub told : (f : InstanceLine → Option Instance) (p : Parsed) (l : List ℕ) (step known : Step) (ys : Numbers) → as_reading p ≡ instance_line (ended l)
     → as_step step ys ≡ due f (as_reading p) → step ≡ known → as_step known ys ≡ due f (instance_line (ended l))
 told f p l step known ys parsed added e = rw (← e, ← parsed) added
 
@@ -69,15 +70,15 @@ lines-unread [] e = refl
 lines-unread (l ∷ ls) e = lines-wrong l ls malformed (ap (due with_board) e)
 
 -- ---- the loop over the lines behind the board's
-pub record Reading (begun : Shape) (sheet old : List ℕ) (shape : Shape) (xs rest : List ℕ) (k : ℕ) : Type 0 where
+pub record Reading (begun : Shape) (sheet : List ℕ) (old : Numbers) (shape : Shape) (xs : Numbers) (rest : List ℕ) (k : ℕ) : Type 0 where
   pub room : Room shape
   pub places : k + length rest ≤ 2 + length sheet
   pub left : read_rest (instance_from begun (job_of old)) 2 (lines_of sheet) ≡ read_rest (instance_from shape (job_of xs)) k (lines_of rest)
 
-pub reading-start : (begun : Shape) (sheet old : List ℕ) → Room begun → Reading begun sheet old begun old sheet 2
+pub reading-start : (begun : Shape) (sheet : List ℕ) (old : Numbers) → Room begun → Reading begun sheet old begun old sheet 2
 reading-start begun sheet old r = record { room = r; places = omega arith; left = refl }
 
-module _ {begun : Shape} {sheet old : List ℕ} {shape : Shape} {xs rest : List ℕ} {k : ℕ} (inv : Reading begun sheet old shape xs rest k) where
+module _ {begun : Shape} {sheet : List ℕ} {old : Numbers} {shape : Shape} {xs : Numbers} {rest : List ℕ} {k : ℕ} (inv : Reading begun sheet old shape xs rest k) where
   -- a line that is malformed
   pub reading-unread : 0 < length rest → {line found : List ℕ} → NextLine rest line found → length line ≡ 0
       → refused malformed k ≡ read_rest (instance_from begun (job_of old)) 2 (lines_of sheet)
@@ -94,7 +95,7 @@ module _ {begun : Shape} {sheet old : List ℕ} {shape : Shape} {xs rest : List 
         → refused w k ≡ read_rest (instance_from begun (job_of old)) 2 (lines_of sheet)
     reading-refused w d = sym (turn _ refl ∙ rest-wrong _ k (ended line) _ w (sym d))
 
-    pub reading-next : (b : Shape) (ys : List ℕ)
+    pub reading-next : (b : Shape) (ys : Numbers)
         → right (instance_from b (job_of ys)) ≡ due (with_line (instance_from shape (job_of xs))) (instance_line (ended line)) → Room b
         → Reading begun sheet old b ys (take (length rest - (length line + 1)) (drop (length line + 1) rest)) (k + 1)
     reading-next b ys d r =

@@ -1,10 +1,11 @@
 // The instance with one line more.
-ghost use Rattle.std.specs.Prelude.{◌≡◌, List, ℕ};
+ghost use Rattle.std.specs.Prelude.{◌≡◌};
 ghost use Rattle.rules.specs.Text.{due, or_undue, fault_of};
 ghost use Rattle.rules.specs.InstanceText.{task_line, file_line, ascends, file_allowed, with_board, with_line};
 ghost use Rattle.rules.specs.Limits.{task_numbers};
 ghost use Rattle.rules.specs.Promises.{In};
 ghost use Rattle.rules.specs.Refusals.{as_fault};
+ghost use Rattle.model.specs.declared.layout.Numbers.{Numbers};
 ghost use Rattle.model.specs.Layout.{instance_of};
 ghost use Rattle.instance.specs.Lines.{as_reading, Numbered};
 ghost use Rattle.instance.specs.Steps.{Room, as_step, RoomIn};
@@ -47,7 +48,7 @@ fn fault_of(line: Line) -> Fault
 
 // The board line is due first. The instance has no task and no file yet, whatever the job array holds.
 pub fn first(line: Line) -> Step
-    ensures step { (xs : List ℕ) → as_step result xs ≡ due with_board (as_reading line) }
+    ensures step { (xs : Numbers) → as_step result xs ≡ due with_board (as_reading line) }
     ensures room_in { RoomIn result }
 {
     let Line::Board { board } = line else {
@@ -61,14 +62,7 @@ pub fn first(line: Line) -> Step
 }
 
 // A task's line: the next task, before any file.
-fn add_task(
-    shape: Shape,
-    job: &mut [u64; layout::JOB],
-    i: u64,
-    blue: u64,
-    red: u64,
-    work: u64,
-) -> Step
+fn add_task(shape: Shape, job: &mut layout::Numbers, i: u64, blue: u64, red: u64, work: u64) -> Step
     requires room { Room shape }
     requires task_in_range { In task_numbers i }
     ensures step { as_step result job.new ≡
@@ -92,7 +86,7 @@ fn add_task(
 }
 
 // Whether a pair of tasks, counted from 0, is behind that of the last file.
-fn ascending(shape: Shape, job: &[u64; layout::JOB], i: u64, j: u64) -> bool
+fn ascending(shape: Shape, job: &layout::Numbers, i: u64, j: u64) -> bool
     requires { Room shape }
     ensures { result ≡ ascends (instance_of shape job.now) i j }
 {
@@ -111,7 +105,7 @@ fn ascending(shape: Shape, job: &[u64; layout::JOB], i: u64, j: u64) -> bool
 }
 
 // Whether a file from task i to task j, counted from 1, may come next.
-fn file_allowed(shape: Shape, job: &[u64; layout::JOB], i: u64, j: u64) -> bool
+fn file_allowed(shape: Shape, job: &layout::Numbers, i: u64, j: u64) -> bool
     requires room { Room shape }
     requires task_in_range { In task_numbers i }
     ensures { result ≡ file_allowed (instance_of shape job.now) i j }
@@ -129,14 +123,7 @@ fn file_allowed(shape: Shape, job: &[u64; layout::JOB], i: u64, j: u64) -> bool
 }
 
 // A file's line.
-fn add_file(
-    shape: Shape,
-    job: &mut [u64; layout::JOB],
-    i: u64,
-    j: u64,
-    size: u64,
-    time: u64,
-) -> Step
+fn add_file(shape: Shape, job: &mut layout::Numbers, i: u64, j: u64, size: u64, time: u64) -> Step
     requires room { Room shape }
     requires tasks_in_range { In task_numbers i × In task_numbers j }
     ensures step { as_step result job.new ≡
@@ -158,7 +145,7 @@ fn add_file(
 }
 
 // Behind the board line a task or a file is due.
-pub fn add(shape: Shape, job: &mut [u64; layout::JOB], line: Line) -> Step
+pub fn add(shape: Shape, job: &mut layout::Numbers, line: Line) -> Step
     requires room { Room shape }
     requires numbered { Numbered line }
     ensures step { as_step result job.new ≡ due (with_line (instance_of shape job.old)) (as_reading line) }

@@ -22,7 +22,7 @@ pub enum InstanceRead {
 }
 
 // The lines behind the board's; the first of them is line 2.
-fn rest_of(begun: Shape, sheet: &[u8], job: &mut [u64; layout::JOB]) -> InstanceRead
+fn rest_of(begun: Shape, sheet: &[u8], job: &mut layout::Numbers) -> InstanceRead
     requires room { Room begun }
     requires sheet_len_bound { length sheet.now ≤ max_text }
     ensures { as_read result job.new ≡ read_rest (instance_of begun job.old) 2 (lines_of sheet.now) }
@@ -55,7 +55,7 @@ fn rest_of(begun: Shape, sheet: &[u8], job: &mut [u64; layout::JOB]) -> Instance
 
 // Reads a board sheet. Where it is accepted, the job array holds its tasks and files, and 0 past them; what the array
 // held before plays no part.
-pub fn read(sheet: &[u8], job: &mut [u64; layout::JOB]) -> InstanceRead
+pub fn read(sheet: &[u8], job: &mut layout::Numbers) -> InstanceRead
     ensures { as_read result job.new ≡ read_instance sheet.now }
 {
     if Board::MAX_TEXT < sheet.len() {
@@ -69,7 +69,7 @@ pub fn read(sheet: &[u8], job: &mut [u64; layout::JOB]) -> InstanceRead
     match first(line_of(&found)) {
         Step::Refused(fault) => InstanceRead::Refused(fault, 1),
         Step::Next(shape) => {
-            *job = [0; layout::JOB];
+            *job = layout::Numbers::new();
             rest_of(shape, &sheet[line.len() + 1..], job)
         }
     }

@@ -44,7 +44,7 @@ fn file_size(i: u64, j: u64, size: u64, time: u64) -> usize
 }
 
 // The bytes of all tasks' lines.
-fn tasks_size(shape: Shape, job: &[u64; layout::JOB]) -> usize
+fn tasks_size(shape: Shape, job: &layout::Numbers) -> usize
     requires { shape.tasks ≤ max_tasks }
     ensures value { result ≡ length (task_lines (instance_of shape job.now) shape.tasks) }
     ensures upper_bound { result ≤ longest * max_tasks }
@@ -61,7 +61,7 @@ fn tasks_size(shape: Shape, job: &[u64; layout::JOB]) -> usize
 }
 
 // The bytes of all files' lines.
-fn files_size(shape: Shape, job: &[u64; layout::JOB]) -> usize
+fn files_size(shape: Shape, job: &layout::Numbers) -> usize
     requires { JobInBounds shape job.now }
     ensures value { result ≡ length (file_lines (instance_of shape job.now) shape.files) }
     ensures upper_bound { result ≤ longest * max_files }
@@ -79,7 +79,7 @@ fn files_size(shape: Shape, job: &[u64; layout::JOB]) -> usize
 }
 
 // The bytes of a board sheet.
-pub fn instance_size(shape: Shape, job: &[u64; layout::JOB]) -> usize
+pub fn instance_size(shape: Shape, job: &layout::Numbers) -> usize
     requires { JobInBounds shape job.now }
     ensures { result ≡ length (instance_text (instance_of shape job.now)) }
 {

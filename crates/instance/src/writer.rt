@@ -51,7 +51,7 @@ fn write_file(out: &mut [u8], i: u64, j: u64, size: u64, time: u64) -> usize
 }
 
 // Writes the tasks' lines.
-fn write_tasks(shape: Shape, job: &[u64; layout::JOB], out: &mut [u8]) -> usize
+fn write_tasks(shape: Shape, job: &layout::Numbers, out: &mut [u8]) -> usize
     requires tasks_le_max_tasks { shape.tasks ≤ max_tasks }
     requires text_fits { length (task_lines (instance_of shape job.now) shape.tasks) ≤ length out.old }
     ensures { Wrote (task_lines (instance_of shape job.now) shape.tasks) result out.old out.new }
@@ -70,7 +70,7 @@ fn write_tasks(shape: Shape, job: &[u64; layout::JOB], out: &mut [u8]) -> usize
 }
 
 // Writes the files' lines.
-fn write_files(shape: Shape, job: &[u64; layout::JOB], out: &mut [u8]) -> usize
+fn write_files(shape: Shape, job: &layout::Numbers, out: &mut [u8]) -> usize
     requires job_in_bounds { JobInBounds shape job.now }
     requires text_fits { length (file_lines (instance_of shape job.now) shape.files) ≤ length out.old }
     ensures { Wrote (file_lines (instance_of shape job.now) shape.files) result out.old out.new }
@@ -90,7 +90,7 @@ fn write_files(shape: Shape, job: &[u64; layout::JOB], out: &mut [u8]) -> usize
 }
 
 // Writes a board sheet.
-pub fn write(shape: Shape, job: &[u64; layout::JOB], out: &mut [u8]) -> usize
+pub fn write(shape: Shape, job: &layout::Numbers, out: &mut [u8]) -> usize
     requires job_in_bounds { JobInBounds shape job.now }
     requires text_fits { length (instance_text (instance_of shape job.now)) ≤ length out.old }
     ensures { Wrote (instance_text (instance_of shape job.now)) result out.old out.new }

@@ -14,7 +14,7 @@ fn put(rt: &impl Print, number: u64, place: u64) -> Result<()> {
 }
 
 fn show(rt: &impl Print, sheet: &[u8]) -> Result<()> {
-    let mut job = [0u64; layout::JOB];
+    let mut job = layout::Numbers::new();
     match instance::read(sheet, &mut job) {
         InstanceRead::Accepted(_) => put(rt, 0, 0),
         InstanceRead::Refused(fault, place) => put(rt, text::sheet_number(fault), place),

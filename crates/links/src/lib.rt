@@ -18,7 +18,7 @@ pub enum End {
 }
 
 // The task at that end of file k.
-fn task_at(shape: Shape, job: &[u64; layout::JOB], end: End, k: usize) -> u64
+fn task_at(shape: Shape, job: &layout::Numbers, end: End, k: usize) -> u64
     requires job_in_bounds { JobInBounds shape job.now }
     requires k_lt_files { k < shape.files }
     ensures by_index { (i : ℕ) → eqb result i ≡ has_at end (instance_of shape job.now) i k }
@@ -33,7 +33,7 @@ fn task_at(shape: Shape, job: &[u64; layout::JOB], end: End, k: usize) -> u64
 // Chains the files by their task at that end, from the last file down: each goes before those of its task that are behind it.
 pub fn link(
     shape: Shape,
-    job: &[u64; layout::JOB],
+    job: &layout::Numbers,
     end: End,
     first: &mut [u64; Board::MAX_TASKS],
     next: &mut [u64; Board::MAX_FILES],

@@ -16,9 +16,9 @@ use validator::judgement::{Verdict, judge};
 // Marks a timetable on the instance of an accepted board sheet, and leaves in the schedule what was read of it.
 pub fn mark_into<'a>(
     shape: Shape,
-    job: &'a [u64; layout::JOB],
+    job: &'a layout::Numbers,
     paper: &'a [u8],
-    schedule: &mut [u64; layout::SCHEDULE],
+    schedule: &mut layout::Schedule,
 ) -> Verdict
     requires { WellFormed (instance_of shape job.now) }
     ensures { Marked (instance_of shape job.now) paper.now (schedule_of shape schedule.new) (as_verdict result) }
@@ -32,10 +32,10 @@ pub fn mark_into<'a>(
 }
 
 // Marks a timetable on the instance of an accepted board sheet.
-pub fn mark_paper<'a>(shape: Shape, job: &'a [u64; layout::JOB], paper: &'a [u8]) -> Verdict
+pub fn mark_paper<'a>(shape: Shape, job: &'a layout::Numbers, paper: &'a [u8]) -> Verdict
     requires { WellFormed (instance_of shape job.now) }
     ensures { as_verdict result ≡ mark_on (instance_of shape job.now) paper.now }
 {
-    let mut schedule = [0; layout::SCHEDULE];
+    let mut schedule = layout::Schedule::new();
     mark_into(shape, job, paper, &mut schedule)
 }

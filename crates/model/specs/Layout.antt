@@ -1,5 +1,5 @@
 -- The rules' instance and schedule, made of a shape and two arrays, and what the code asks of the arrays.
-use Rattle.std.specs.Prelude.{ℕ, ◌+◌, ◌*◌, ◌≤◌, ◌<◌, cond, List, leb, get_or, set}
+use Rattle.std.specs.Prelude.{ℕ, ◌+◌, ◌*◌, ◌≤◌, ◌<◌, cond, ◌≡◌, List, length, leb, get_or, set, replicate}
 use Rattle.rules.specs.Count.{list_below}
 use Rattle.rules.specs.Limits.{max_tasks, max_files, processor_counts, all_processors, memory_limits, run_times, move_times, file_sizes, work_sizes, ticks}
 use Rattle.rules.specs.Model as Rules
@@ -8,6 +8,11 @@ use Rattle.rules.specs.Scheduling.{Partial}
 use Rattle.rules.specs.BoardType.{side_from}
 use Rattle.rules.specs.Promises.{In}
 use Rattle.model.specs.declared.layout.Shape.{Shape}
+use Rattle.model.specs.declared.layout.Task.{Task as StoredTask}
+use Rattle.model.specs.declared.layout.File.{File as StoredFile}
+use Rattle.model.specs.declared.layout.Numbers.{Numbers}
+use Rattle.model.specs.declared.layout.Run.{Run as StoredRun}
+use Rattle.model.specs.declared.layout.Schedule.{Schedule as StoredSchedule}
 use Rattle.model.specs.declared.colour.Colour.{Colour}
 use Rattle.model.specs.Colours.{by_colour}
 
@@ -23,38 +28,21 @@ pub record Job : Type 0 where
   pub size : ℕ → ℕ
   pub move_time : ℕ → ℕ
 
--- where the numbers of task i and of file k stand; the run time on blue of task i is at i
-abbrev pub on_red_place : ℕ → ℕ
-on_red_place i = max_tasks + i
+abbrev pub stored_task : Numbers → ℕ → StoredTask
+stored_task xs i = get_or xs.tasks i (record { on_blue = 0; on_red = 0; work = 0 })
 
-abbrev pub work_place : ℕ → ℕ
-work_place i = 2 * max_tasks + i
+abbrev pub stored_file : Numbers → ℕ → StoredFile
+stored_file xs k = get_or xs.files k (record { maker = 0; reader = 0; size = 0; move_time = 0 })
 
-abbrev pub maker_place : ℕ → ℕ
-maker_place k = 3 * max_tasks + k
-
-abbrev pub reader_place : ℕ → ℕ
-reader_place k = 3 * max_tasks + max_files + k
-
-abbrev pub size_place : ℕ → ℕ
-size_place k = 3 * max_tasks + 2 * max_files + k
-
-abbrev pub move_time_place : ℕ → ℕ
-move_time_place k = 3 * max_tasks + 3 * max_files + k
-
--- the length of a job array
-abbrev pub job_length : ℕ
-job_length = 3 * max_tasks + 4 * max_files
-
-abbrev pub job_of : List ℕ → Job
+abbrev pub job_of : Numbers → Job
 job_of xs = record {
-  on_blue = λ i. get_or xs i 0;
-  on_red = λ i. get_or xs (on_red_place i) 0;
-  work = λ i. get_or xs (work_place i) 0;
-  maker = λ k. get_or xs (maker_place k) 0;
-  reader = λ k. get_or xs (reader_place k) 0;
-  size = λ k. get_or xs (size_place k) 0;
-  move_time = λ k. get_or xs (move_time_place k) 0;
+  on_blue = λ i. (stored_task xs i).on_blue;
+  on_red = λ i. (stored_task xs i).on_red;
+  work = λ i. (stored_task xs i).work;
+  maker = λ k. (stored_file xs k).maker;
+  reader = λ k. (stored_file xs k).reader;
+  size = λ k. (stored_file xs k).size;
+  move_time = λ k. (stored_file xs k).move_time;
 }
 
 -- the processor and the start of each task, and the move start of each file
@@ -63,42 +51,52 @@ pub record Entries : Type 0 where
   pub start : ℕ → ℕ
   pub move_start : ℕ → ℕ
 
--- where the start of task i and the move start of file k stand; the processor of task i is at i
-abbrev pub start_place : ℕ → ℕ
-start_place i = max_tasks + i
+abbrev pub stored_run : StoredSchedule → ℕ → StoredRun
+stored_run xs i = get_or xs.runs i (record { processor = 0; start = 0 })
 
-abbrev pub move_start_place : ℕ → ℕ
-move_start_place k = 2 * max_tasks + k
-
--- the length of a schedule array
-abbrev pub schedule_length : ℕ
-schedule_length = 2 * max_tasks + max_files
-
-abbrev pub entries_of : List ℕ → Entries
+abbrev pub entries_of : StoredSchedule → Entries
 entries_of xs = record {
-  processor = λ i. get_or xs i 0;
-  start = λ i. get_or xs (start_place i) 0;
-  move_start = λ k. get_or xs (move_start_place k) 0;
+  processor = λ i. (stored_run xs i).processor;
+  start = λ i. (stored_run xs i).start;
+  move_start = λ k. get_or xs.moves k 0;
 }
 
 -- the length of an array of last finishes
 abbrev pub last_length : ℕ
 last_length = all_processors
 
--- ---- the arrays with one task, file, run or move start written
+-- ---- what is stored with one task, file, run or move start written
 
-abbrev pub with_task_at : List ℕ → ℕ → ℕ → ℕ → ℕ → List ℕ
-with_task_at job i on_blue on_red work = set (set (set job i on_blue) (on_red_place i) on_red) (work_place i) work
+abbrev pub with_task_at : Numbers → ℕ → ℕ → ℕ → ℕ → Numbers
+with_task_at xs i on_blue on_red work =
+    record { tasks = set xs.tasks i (record { on_blue = on_blue; on_red = on_red; work = work }); files = xs.files }
 
-abbrev pub with_file_at : List ℕ → ℕ → ℕ → ℕ → ℕ → ℕ → List ℕ
-with_file_at job k maker reader size time =
-    set (set (set (set job (maker_place k) maker) (reader_place k) reader) (size_place k) size) (move_time_place k) time
+abbrev pub with_file_at : Numbers → ℕ → ℕ → ℕ → ℕ → ℕ → Numbers
+with_file_at xs k maker reader size time =
+    record { tasks = xs.tasks; files = set xs.files k (record { maker = maker; reader = reader; size = size; move_time = time }) }
 
-abbrev pub with_run_at : List ℕ → ℕ → ℕ → ℕ → List ℕ
-with_run_at schedule i processor start = set (set schedule i processor) (start_place i) start
+abbrev pub with_run_at : StoredSchedule → ℕ → ℕ → ℕ → StoredSchedule
+with_run_at xs i processor start = record { runs = set xs.runs i (record { processor = processor; start = start }); moves = xs.moves }
 
-abbrev pub with_move_at : List ℕ → ℕ → ℕ → List ℕ
-with_move_at schedule k start = set schedule (move_start_place k) start
+abbrev pub with_move_at : StoredSchedule → ℕ → ℕ → StoredSchedule
+with_move_at xs k start = record { runs = xs.runs; moves = set xs.moves k start }
+
+-- each array is as long as its type says
+abbrev pub Whole : Numbers → Type 0
+Whole xs = (length xs.tasks ≡ max_tasks) × (length xs.files ≡ max_files)
+
+abbrev pub WholeSchedule : StoredSchedule → Type 0
+WholeSchedule xs = (length xs.runs ≡ max_tasks) × (length xs.moves ≡ max_files)
+
+-- no task and no file; no task placed, and each move start 0
+abbrev pub no_numbers : Numbers
+no_numbers = record {
+  tasks = replicate max_tasks (record { on_blue = 0; on_red = 0; work = 0 });
+  files = replicate max_files (record { maker = 0; reader = 0; size = 0; move_time = 0 });
+}
+
+abbrev pub unplaced : StoredSchedule
+unplaced = record { runs = replicate max_tasks (record { processor = 0; start = 0 }); moves = replicate max_files 0 }
 
 -- ---- the rules' instance and schedule
 
@@ -139,13 +137,13 @@ partial_from b L last = record {
 
 -- ---- the same of the arrays themselves
 
-abbrev pub instance_of : Shape → List ℕ → Instance
+abbrev pub instance_of : Shape → Numbers → Instance
 instance_of b job = instance_from b (job_of job)
 
-abbrev pub schedule_of : Shape → List ℕ → Schedule
+abbrev pub schedule_of : Shape → StoredSchedule → Schedule
 schedule_of b schedule = schedule_from b (entries_of schedule)
 
-abbrev pub partial_of : Shape → List ℕ → List ℕ → Partial
+abbrev pub partial_of : Shape → StoredSchedule → List ℕ → Partial
 partial_of b schedule last = partial_from b (entries_of schedule) last
 
 -- the colour that task i runs on
@@ -190,13 +188,13 @@ pub record Bounds (b : Shape) (J : Job) (L : Entries) : Type 0 where
   pub schedule : ScheduleBounds b L
 
 -- the same of the arrays themselves
-abbrev pub JobInBounds : Shape → List ℕ → Type 0
+abbrev pub JobInBounds : Shape → Numbers → Type 0
 JobInBounds b job = JobBounds b (job_of job)
 
-abbrev pub ScheduleInBounds : Shape → List ℕ → Type 0
+abbrev pub ScheduleInBounds : Shape → StoredSchedule → Type 0
 ScheduleInBounds b schedule = ScheduleBounds b (entries_of schedule)
 
-abbrev pub InBounds : Shape → List ℕ → List ℕ → Type 0
+abbrev pub InBounds : Shape → Numbers → StoredSchedule → Type 0
 InBounds b job schedule = Bounds b (job_of job) (entries_of schedule)
 
 -- no finish, no release and no end of a move is later

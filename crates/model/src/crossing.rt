@@ -14,8 +14,8 @@ use super::layout::Shape;
 // The actual move time of file k, by the colours of its two tasks.
 pub fn actual_move_time<'a>(
     shape: Shape,
-    job: &'a [u64; layout::JOB],
-    schedule: &'a [u64; layout::SCHEDULE],
+    job: &'a layout::Numbers,
+    schedule: &'a layout::Schedule,
     k: usize,
 ) -> u64
     requires job_in_bounds { JobInBounds shape job.now }
@@ -35,8 +35,8 @@ pub fn actual_move_time<'a>(
 // Whether file k moves: whether its move takes time, since no move time is 0. The runs alone say so: no move start is read.
 pub fn moves<'a>(
     shape: Shape,
-    job: &'a [u64; layout::JOB],
-    schedule: &'a [u64; layout::SCHEDULE],
+    job: &'a layout::Numbers,
+    schedule: &'a layout::Schedule,
     k: usize,
 ) -> bool
     requires job_in_bounds { JobInBounds shape job.now }
@@ -56,8 +56,8 @@ pub struct Cost {
 // What file k costs the task on the colour: nothing if the task does not read it.
 pub fn cost_for<'a>(
     shape: Shape,
-    job: &'a [u64; layout::JOB],
-    schedule: &'a [u64; layout::SCHEDULE],
+    job: &'a layout::Numbers,
+    schedule: &'a layout::Schedule,
     k: usize,
     task: u64,
     colour: Colour,

@@ -9,7 +9,7 @@ use super::layout::Shape;
 #[derive(Clone, Copy)]
 pub struct Job<'a> {
     pub shape: Shape,
-    pub numbers: &'a [u64; layout::JOB],
+    pub numbers: &'a layout::Numbers,
     ghost in_bounds: { JobInBounds shape numbers.now },
 }
 

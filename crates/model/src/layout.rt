@@ -4,7 +4,7 @@ ghost use Rattle.std.specs.Prelude.{◌≡◌, ◌<◌, ◌≤◌, max, length, 
 ghost use Rattle.rules.specs.Limits.{max_tasks, max_files};
 ghost use Rattle.model.specs.Colours.{as_colour, by_colour};
 ghost use Rattle.model.specs.Layout.{JobInBounds, job_of, entries_of, colour_at};
-ghost use Rattle.model.specs.Layout.{with_task_at, with_file_at, with_run_at, with_move_at, job_length, schedule_length};
+ghost use Rattle.model.specs.Layout.{Whole, WholeSchedule, no_numbers, unplaced, with_task_at, with_file_at, with_run_at, with_move_at};
 
 use super::colour::{Colour, by_colour};
 use rules::Board;
@@ -17,67 +17,121 @@ pub struct Shape {
     pub board: Board,
 }
 
-// A job array: the run times on blue and on red and the working memory of each task; then of each file maker, reader, size and move
-// time.
-pub const JOB: usize = 3 * Board::MAX_TASKS + 4 * Board::MAX_FILES;
+// What a sheet says of a task: its run times and its working memory, 0 if it has none.
+#[derive(Clone, Copy)]
+pub struct Task {
+    pub on_blue: u64,
+    pub on_red: u64,
+    pub work: u64,
+}
 
-const ON_RED: usize = Board::MAX_TASKS;
+// What a sheet says of a file: the tasks that make and read it, counted from 0, its size F and its move time C.
+#[derive(Clone, Copy)]
+pub struct File {
+    pub maker: u64,
+    pub reader: u64,
+    pub size: u64,
+    pub move_time: u64,
+}
 
-const WORK: usize = ON_RED + Board::MAX_TASKS;
+// The tasks and the files of an instance; those past its counts mean nothing.
+#[derive(Clone, Copy)]
+pub struct Numbers {
+    pub tasks: [Task; Board::MAX_TASKS],
+    pub files: [File; Board::MAX_FILES],
+}
 
-const MAKER: usize = WORK + Board::MAX_TASKS;
+impl Numbers {
+    // Of no task and no file.
+    pub fn new() -> Self
+        ensures { result ≡ no_numbers }
+    {
+        let task = Task {
+            on_blue: 0,
+            on_red: 0,
+            work: 0,
+        };
+        let file = File {
+            maker: 0,
+            reader: 0,
+            size: 0,
+            move_time: 0,
+        };
+        Numbers {
+            tasks: [task; Board::MAX_TASKS],
+            files: [file; Board::MAX_FILES],
+        }
+    }
+}
 
-const READER: usize = MAKER + Board::MAX_FILES;
+// Where and when a task runs: processor 0 if it is not placed.
+#[derive(Clone, Copy)]
+pub struct Run {
+    pub processor: u64,
+    pub start: u64,
+}
 
-const SIZE: usize = READER + Board::MAX_FILES;
+// The run of each task, and the move start of each file.
+#[derive(Clone, Copy)]
+pub struct Schedule {
+    pub runs: [Run; Board::MAX_TASKS],
+    pub moves: [u64; Board::MAX_FILES],
+}
 
-const MOVE_TIME: usize = SIZE + Board::MAX_FILES;
-
-// A schedule array: processor (0 if not placed) and start of each task; then the move start of each file.
-pub const SCHEDULE: usize = 2 * Board::MAX_TASKS + Board::MAX_FILES;
-
-const START: usize = Board::MAX_TASKS;
-
-const MOVE_START: usize = START + Board::MAX_TASKS;
+impl Schedule {
+    // No task placed.
+    pub fn new() -> Self
+        ensures { result ≡ unplaced }
+    {
+        let run = Run {
+            processor: 0,
+            start: 0,
+        };
+        Schedule {
+            runs: [run; Board::MAX_TASKS],
+            moves: [0; Board::MAX_FILES],
+        }
+    }
+}
 
 // The last finish of each processor, blue ones first.
 pub const LAST: usize = Board::ALL_PROCESSORS;
 
 // The run time of task i on a processor of the colour.
-pub fn run_time(job: &[u64; JOB], i: usize, colour: Colour) -> u64
+pub fn run_time(job: &Numbers, i: usize, colour: Colour) -> u64
     requires { i < max_tasks }
     ensures value { result ≡ by_colour colour ((job_of job.now).on_blue i) ((job_of job.now).on_red i) }
     ensures upper_bound { result ≤ max ((job_of job.now).on_blue i) ((job_of job.now).on_red i) }
 {
-    by_colour(colour, job[i], job[ON_RED + i])
+    by_colour(colour, job.tasks[i].on_blue, job.tasks[i].on_red)
 }
 
 // The working memory of task i, 0 if it has none.
-pub fn work(job: &[u64; JOB], i: usize) -> u64
+pub fn work(job: &Numbers, i: usize) -> u64
     requires { i < max_tasks }
     ensures { result ≡ (job_of job.now).work i }
 {
-    job[WORK + i]
+    job.tasks[i].work
 }
 
 // The maker of file k as stored: nothing is known of it yet.
-pub fn stored_maker(job: &[u64; JOB], k: usize) -> u64
+pub fn stored_maker(job: &Numbers, k: usize) -> u64
     requires { k < max_files }
     ensures { result ≡ (job_of job.now).maker k }
 {
-    job[MAKER + k]
+    job.files[k].maker
 }
 
 // The reader of file k, likewise.
-pub fn stored_reader(job: &[u64; JOB], k: usize) -> u64
+pub fn stored_reader(job: &Numbers, k: usize) -> u64
     requires { k < max_files }
     ensures { result ≡ (job_of job.now).reader k }
 {
-    job[READER + k]
+    job.files[k].reader
 }
 
 // The maker of file k of an instance in its bounds: the task exists.
-pub fn maker(shape: Shape, job: &[u64; JOB], k: usize) -> u64
+pub fn maker(shape: Shape, job: &Numbers, k: usize) -> u64
     requires job_in_bounds { JobInBounds shape job.now }
     requires k_lt_files { k < shape.files }
     ensures value { result ≡ (job_of job.now).maker k }
@@ -87,7 +141,7 @@ pub fn maker(shape: Shape, job: &[u64; JOB], k: usize) -> u64
 }
 
 // The reader of file k, likewise.
-pub fn reader(shape: Shape, job: &[u64; JOB], k: usize) -> u64
+pub fn reader(shape: Shape, job: &Numbers, k: usize) -> u64
     requires job_in_bounds { JobInBounds shape job.now }
     requires k_lt_files { k < shape.files }
     ensures value { result ≡ (job_of job.now).reader k }
@@ -96,43 +150,43 @@ pub fn reader(shape: Shape, job: &[u64; JOB], k: usize) -> u64
     stored_reader(job, k)
 }
 
-pub fn size(job: &[u64; JOB], k: usize) -> u64
+pub fn size(job: &Numbers, k: usize) -> u64
     requires { k < max_files }
     ensures { result ≡ (job_of job.now).size k }
 {
-    job[SIZE + k]
+    job.files[k].size
 }
 
-pub fn move_time(job: &[u64; JOB], k: usize) -> u64
+pub fn move_time(job: &Numbers, k: usize) -> u64
     requires { k < max_files }
     ensures { result ≡ (job_of job.now).move_time k }
 {
-    job[MOVE_TIME + k]
+    job.files[k].move_time
 }
 
-pub fn processor(schedule: &[u64; SCHEDULE], i: usize) -> u64
+pub fn processor(schedule: &Schedule, i: usize) -> u64
     requires { i < max_tasks }
     ensures { result ≡ (entries_of schedule.now).processor i }
 {
-    schedule[i]
+    schedule.runs[i].processor
 }
 
-pub fn start(schedule: &[u64; SCHEDULE], i: usize) -> u64
+pub fn start(schedule: &Schedule, i: usize) -> u64
     requires { i < max_tasks }
     ensures { result ≡ (entries_of schedule.now).start i }
 {
-    schedule[START + i]
+    schedule.runs[i].start
 }
 
-pub fn move_start(schedule: &[u64; SCHEDULE], k: usize) -> u64
+pub fn move_start(schedule: &Schedule, k: usize) -> u64
     requires { k < max_files }
     ensures { result ≡ (entries_of schedule.now).move_start k }
 {
-    schedule[MOVE_START + k]
+    schedule.moves[k]
 }
 
 // The colour that task i runs on: the first processors are blue.
-pub fn colour_of(shape: Shape, schedule: &[u64; SCHEDULE], i: usize) -> Colour
+pub fn colour_of(shape: Shape, schedule: &Schedule, i: usize) -> Colour
     requires { i < max_tasks }
     ensures { as_colour result ≡ colour_at shape (entries_of schedule.now) i }
 {
@@ -151,49 +205,47 @@ pub fn store(array: &mut [u64], at: usize, number: u64)
     array[at] = number;
 }
 
-// Stores two numbers.
-fn store_two(array: &mut [u64], p: usize, a: u64, q: usize, b: u64)
-    requires { (p < length array.old) × (q < length array.old) }
-    ensures { array.new ≡ set (set array.old p a) q b }
-{
-    array[p] = a;
-    array[q] = b;
-}
-
 // Writes the run times and the working memory of task i.
-pub fn set_task(job: &mut [u64; JOB], i: usize, blue: u64, red: u64, work: u64)
+pub fn set_task(job: &mut Numbers, i: usize, blue: u64, red: u64, work: u64)
     requires { i < max_tasks }
     ensures job_after { job.new ≡ with_task_at job.old i blue red work }
-    ensures job_len { (length job.old ≡ job_length) × (length job.new ≡ job_length) }
+    ensures job_len { Whole job.old × Whole job.new }
 {
-    store_two(job, i, blue, ON_RED + i, red);
-    store(job, WORK + i, work);
+    job.tasks[i] = Task {
+        on_blue: blue,
+        on_red: red,
+        work,
+    };
 }
 
 // Writes the four numbers of file k.
-pub fn set_file(job: &mut [u64; JOB], k: usize, maker: u64, reader: u64, size: u64, time: u64)
+pub fn set_file(job: &mut Numbers, k: usize, maker: u64, reader: u64, size: u64, time: u64)
     requires { k < max_files }
     ensures job_after { job.new ≡ with_file_at job.old k maker reader size time }
-    ensures job_len { (length job.old ≡ job_length) × (length job.new ≡ job_length) }
+    ensures job_len { Whole job.old × Whole job.new }
 {
-    store_two(job, MAKER + k, maker, READER + k, reader);
-    store_two(job, SIZE + k, size, MOVE_TIME + k, time);
+    job.files[k] = File {
+        maker,
+        reader,
+        size,
+        move_time: time,
+    };
 }
 
 // Writes the run of task i.
-pub fn set_run(schedule: &mut [u64; SCHEDULE], i: usize, processor: u64, start: u64)
+pub fn set_run(schedule: &mut Schedule, i: usize, processor: u64, start: u64)
     requires { i < max_tasks }
     ensures schedule_after { schedule.new ≡ with_run_at schedule.old i processor start }
-    ensures schedule_len { (length schedule.old ≡ schedule_length) × (length schedule.new ≡ schedule_length) }
+    ensures schedule_len { WholeSchedule schedule.old × WholeSchedule schedule.new }
 {
-    store_two(schedule, i, processor, START + i, start);
+    schedule.runs[i] = Run { processor, start };
 }
 
 // Writes the move start of file k.
-pub fn set_move_start(schedule: &mut [u64; SCHEDULE], k: usize, start: u64)
+pub fn set_move_start(schedule: &mut Schedule, k: usize, start: u64)
     requires { k < max_files }
     ensures schedule_after { schedule.new ≡ with_move_at schedule.old k start }
-    ensures schedule_len { (length schedule.old ≡ schedule_length) × (length schedule.new ≡ schedule_length) }
+    ensures schedule_len { WholeSchedule schedule.old × WholeSchedule schedule.new }
 {
-    store(schedule, MOVE_START + k, start);
+    schedule.moves[k] = start;
 }

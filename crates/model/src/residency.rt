@@ -48,8 +48,8 @@ pub fn covers(h: Hold, t: u64) -> bool
 // The finish of task i's run.
 pub fn finish<'a>(
     shape: Shape,
-    job: &'a [u64; layout::JOB],
-    schedule: &'a [u64; layout::SCHEDULE],
+    job: &'a layout::Numbers,
+    schedule: &'a layout::Schedule,
     i: usize,
 ) -> u64
     requires in_bounds { InBounds shape job.now schedule.now }
@@ -65,8 +65,8 @@ pub fn finish<'a>(
 // place of the code that says so.
 pub fn release<'a>(
     shape: Shape,
-    job: &'a [u64; layout::JOB],
-    schedule: &'a [u64; layout::SCHEDULE],
+    job: &'a layout::Numbers,
+    schedule: &'a layout::Schedule,
     i: usize,
 ) -> u64
     requires in_bounds { InBounds shape job.now schedule.now }
@@ -83,8 +83,8 @@ pub fn release<'a>(
 // What the two runs of file k imply.
 pub fn file_times<'a>(
     shape: Shape,
-    job: &'a [u64; layout::JOB],
-    schedule: &'a [u64; layout::SCHEDULE],
+    job: &'a layout::Numbers,
+    schedule: &'a layout::Schedule,
     k: usize,
 ) -> FileTimes
     requires in_bounds { InBounds shape job.now schedule.now }
@@ -139,8 +139,8 @@ fn closed_hold(here: bool, times: FileTimes) -> Hold
 // The hold of file k in the memory of the colour.
 pub fn hold_of<'a>(
     shape: Shape,
-    job: &'a [u64; layout::JOB],
-    schedule: &'a [u64; layout::SCHEDULE],
+    job: &'a layout::Numbers,
+    schedule: &'a layout::Schedule,
     k: usize,
     colour: Colour,
 ) -> Hold
@@ -165,8 +165,8 @@ pub fn hold_of<'a>(
 // The hold of task i's working memory in the memory of the colour: the run's own, from its start until its release.
 pub fn work_hold<'a>(
     shape: Shape,
-    job: &'a [u64; layout::JOB],
-    schedule: &'a [u64; layout::SCHEDULE],
+    job: &'a layout::Numbers,
+    schedule: &'a layout::Schedule,
     i: usize,
     colour: Colour,
 ) -> Hold

@@ -9,11 +9,7 @@ use super::layout::Shape;
 use super::residency::finish;
 
 // The greatest finish: document 01's span.
-pub fn makespan<'a>(
-    shape: Shape,
-    job: &'a [u64; layout::JOB],
-    schedule: &'a [u64; layout::SCHEDULE],
-) -> u64
+pub fn makespan<'a>(shape: Shape, job: &'a layout::Numbers, schedule: &'a layout::Schedule) -> u64
     requires { InBounds shape job.now schedule.now }
     ensures value { result ≡
         rules-makespan (instance_of shape job.now) (schedule_of shape schedule.now) }

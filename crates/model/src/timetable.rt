@@ -9,7 +9,7 @@ use super::layout;
 #[derive(Clone, Copy)]
 pub struct Timetable<'a> {
     pub job: Job<'a>,
-    pub schedule: &'a [u64; layout::SCHEDULE],
+    pub schedule: &'a layout::Schedule,
     ghost in_bounds: { ScheduleInBounds job.shape schedule.now },
 }
 

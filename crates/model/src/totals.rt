@@ -13,8 +13,8 @@ use super::residency::{covers, hold_of, work_hold};
 // The sizes of the files held in the memory of the colour at tick t.
 fn files_held<'a>(
     shape: Shape,
-    job: &'a [u64; layout::JOB],
-    schedule: &'a [u64; layout::SCHEDULE],
+    job: &'a layout::Numbers,
+    schedule: &'a layout::Schedule,
     colour: Colour,
     t: u64,
 ) -> u64
@@ -36,8 +36,8 @@ fn files_held<'a>(
 // The working memory held in the memory of the colour at tick t.
 fn work_held<'a>(
     shape: Shape,
-    job: &'a [u64; layout::JOB],
-    schedule: &'a [u64; layout::SCHEDULE],
+    job: &'a layout::Numbers,
+    schedule: &'a layout::Schedule,
     colour: Colour,
     t: u64,
 ) -> u64
@@ -59,8 +59,8 @@ fn work_held<'a>(
 // The total held in the memory of the colour at tick t.
 pub fn held_at<'a>(
     shape: Shape,
-    job: &'a [u64; layout::JOB],
-    schedule: &'a [u64; layout::SCHEDULE],
+    job: &'a layout::Numbers,
+    schedule: &'a layout::Schedule,
     colour: Colour,
     t: u64,
 ) -> u64

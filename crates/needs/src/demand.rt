@@ -28,8 +28,8 @@ pub struct Demand {
 fn with_file<'a>(
     demand: Demand,
     shape: Shape,
-    job: &'a [u64; layout::JOB],
-    schedule: &'a [u64; layout::SCHEDULE],
+    job: &'a layout::Numbers,
+    schedule: &'a layout::Schedule,
     k: usize,
     task: u64,
     colour: Colour,
@@ -60,8 +60,8 @@ fn with_file<'a>(
 // The demand of the task on the colour, along the chain of the files that it reads.
 pub fn demand_of<'a>(
     shape: Shape,
-    job: &'a [u64; layout::JOB],
-    schedule: &'a [u64; layout::SCHEDULE],
+    job: &'a layout::Numbers,
+    schedule: &'a layout::Schedule,
     first: &'a [u64; Board::MAX_TASKS],
     next: &'a [u64; Board::MAX_FILES],
     task: u64,

@@ -10,7 +10,7 @@ use model::layout::Shape;
 use rules::Board;
 
 // Whether task i is placed.
-pub fn placed(schedule: &[u64; layout::SCHEDULE], i: usize) -> bool
+pub fn placed(schedule: &layout::Schedule, i: usize) -> bool
     requires { i < max_tasks }
     ensures { result ≡ ltb 0 ((entries_of schedule.now).processor i) }
 {
@@ -20,8 +20,8 @@ pub fn placed(schedule: &[u64; layout::SCHEDULE], i: usize) -> bool
 // Whether the task is ready: the makers of its files, along their chain, are looked at until one is not placed.
 pub fn ready<'a>(
     shape: Shape,
-    job: &'a [u64; layout::JOB],
-    schedule: &'a [u64; layout::SCHEDULE],
+    job: &'a layout::Numbers,
+    schedule: &'a layout::Schedule,
     first: &'a [u64; Board::MAX_TASKS],
     next: &'a [u64; Board::MAX_FILES],
     task: u64,

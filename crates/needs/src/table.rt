@@ -99,7 +99,7 @@ fn set_sizes(needs: &mut [u64; TABLE], i: usize, room: u64, kept: u64)
 // The sizes of the files of one task, made or read, along their chain.
 fn sizes<'a>(
     shape: Shape,
-    job: &'a [u64; layout::JOB],
+    job: &'a layout::Numbers,
     first: &'a [u64; Board::MAX_TASKS],
     next: &'a [u64; Board::MAX_FILES],
     task: u64,
@@ -123,8 +123,8 @@ fn sizes<'a>(
 // Writes whether the task is ready, and if it is, its demand on both colours.
 fn admit<'a>(
     shape: Shape,
-    job: &'a [u64; layout::JOB],
-    schedule: &'a [u64; layout::SCHEDULE],
+    job: &'a layout::Numbers,
+    schedule: &'a layout::Schedule,
     first: &'a [u64; Board::MAX_TASKS],
     next: &'a [u64; Board::MAX_FILES],
     needs: &mut [u64; TABLE],
@@ -153,12 +153,12 @@ fn admit<'a>(
 // The table for the schedule, from the chains of the files made and of those read.
 pub fn start<'a>(
     shape: Shape,
-    job: &'a [u64; layout::JOB],
+    job: &'a layout::Numbers,
     made_first: &'a [u64; Board::MAX_TASKS],
     made_next: &'a [u64; Board::MAX_FILES],
     read_first: &'a [u64; Board::MAX_TASKS],
     read_next: &'a [u64; Board::MAX_FILES],
-    schedule: &'a [u64; layout::SCHEDULE],
+    schedule: &'a layout::Schedule,
     needs: &mut [u64; TABLE],
 )
     requires in_bounds { InBounds shape job.now schedule.now }
@@ -183,12 +183,12 @@ pub fn start<'a>(
 // The table after task i was placed: it is no longer ready, and the readers of what it makes may be.
 pub fn renew<'a>(
     shape: Shape,
-    job: &'a [u64; layout::JOB],
+    job: &'a layout::Numbers,
     made_first: &'a [u64; Board::MAX_TASKS],
     made_next: &'a [u64; Board::MAX_FILES],
     read_first: &'a [u64; Board::MAX_TASKS],
     read_next: &'a [u64; Board::MAX_FILES],
-    schedule: &'a [u64; layout::SCHEDULE],
+    schedule: &'a layout::Schedule,
     needs: &mut [u64; TABLE],
     i: usize,
 )

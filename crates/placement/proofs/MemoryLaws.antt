@@ -12,6 +12,8 @@ use Rattle.rules.specs.Changes.{Change}
 use Rattle.rules.specs.Staircase.{steps_after, release_on, moves_in, change_if, own_changes, other_changes}
 use Rattle.rules.proofs.Tests.{split}
 use Rattle.model.specs.declared.layout.Shape.{Shape}
+use Rattle.model.specs.declared.layout.Numbers.{Numbers}
+use Rattle.model.specs.declared.layout.Schedule.{Schedule as StoredSchedule}
 use Rattle.model.specs.declared.colour.Colour as Code
 use Rattle.model.specs.declared.colour.Colour.TheVariants.{Blue, Red}
 use Rattle.model.specs.declared.crossing.Cost.{Cost}
@@ -67,7 +69,7 @@ none_in false m z s t l e g = refl
 
 -- ---- a placing
 
-module _ (b : Shape) (job schedule : List ℕ) (x : Placing) where
+module _ (b : Shape) (job : Numbers) (schedule : StoredSchedule) (x : Placing) where
   abbrev I : Instance
   I = instance_of b job
 

@@ -15,10 +15,11 @@ use Rattle.rules.specs.Scheduling.{reads, crossing, move_with}
 use Rattle.rules.proofs.Tests.{by_order}
 use Rattle.rules.proofs.CountLaws.{list-cong}
 use Rattle.model.specs.declared.layout.Shape.{Shape}
-use Rattle.model.specs.Layout.{Job, Entries, entries_of, run_from, instance_from, schedule_from, schedule_of, JobBounds, schedule_length, with_move_at}
+use Rattle.model.specs.declared.layout.Schedule.{Schedule as StoredSchedule}
+use Rattle.model.specs.Layout.{Job, Entries, entries_of, run_from, instance_from, schedule_from, schedule_of, JobBounds, WholeSchedule, with_move_at}
 use Rattle.model.proofs.LayoutLaws.{file-count, maker-at, move-time-at, run-at, move-at}
 use Rattle.links.specs.Chains.{NextOf}
-use Rattle.model.proofs.WriteLaws.{move-here, move-other, move-runs}
+use Rattle.model.proofs.WriteLaws.{move-here, move-other}
 
 -- a file that the task does not read does not cross
 pub not-read : (I : Instance) (P : Schedule) (i : ℕ) (c : Colour) (k : ℕ) → reads I i k ≡ false → crossing I P i c k ≡ false
@@ -44,7 +45,7 @@ module _ {b : Shape} {J : Job} (f : JobBounds b J) (L : Entries) {k : ℕ} (h : 
 
 -- ---- the loop over the files
 
-module _ {b : Shape} {J : Job} (f : JobBounds b J) (xs : List ℕ) (i : ℕ) (c : Colour) (start : ℕ) where
+module _ {b : Shape} {J : Job} (f : JobBounds b J) (xs : StoredSchedule) (i : ℕ) (c : Colour) (start : ℕ) where
   abbrev inst : Instance
   inst = instance_from b J
 
@@ -53,13 +54,13 @@ module _ {b : Shape} {J : Job} (f : JobBounds b J) (xs : List ℕ) (i : ℕ) (c 
   move_by = move_with inst (schedule_of b xs) i c start
 
   -- ys is the schedule xs with the move starts of the first k files set
-  pub record MovesTo (ys : List ℕ) (k : ℕ) : Type 0 where
-    pub size : length ys ≡ schedule_length
+  pub record MovesTo (ys : StoredSchedule) (k : ℕ) : Type 0 where
+    pub size : WholeSchedule ys
     pub runs : (j : ℕ) → j < max_tasks → run_from (entries_of ys) j ≡ run_from (entries_of xs) j
     pub done : (j : ℕ) → j < k → (entries_of ys).move_start j ≡ move_by j
     pub rest : (j : ℕ) → k ≤ j → (entries_of ys).move_start j ≡ (entries_of xs).move_start j
 
-  pub moves-none : length xs ≡ schedule_length → MovesTo xs 0
+  pub moves-none : WholeSchedule xs → MovesTo xs 0
   moves-none e = record {
     size = e;
     runs = λ j l. refl;
@@ -67,7 +68,7 @@ module _ {b : Shape} {J : Job} (f : JobBounds b J) (xs : List ℕ) (i : ℕ) (c 
     rest = λ j l. refl;
   }
 
-  module _ {ys : List ℕ} {k : ℕ} (h : k < b.files) (m : MovesTo ys k) where
+  module _ {ys : StoredSchedule} {k : ℕ} (h : k < b.files) (m : MovesTo ys k) where
     -- the runs are those of xs, so the same files cross
     same-run : (j : ℕ) → j < b.tasks → run_at (schedule_of b ys) j ≡ run_at (schedule_of b xs) j
     same-run j l = run-at b (entries_of ys) j l ∙ m.runs j (omega (arith, f.tasks)) ∙ sym (run-at b (entries_of xs) j l)
@@ -80,23 +81,23 @@ module _ {b : Shape} {J : Job} (f : JobBounds b J) (xs : List ℕ) (i : ℕ) (c 
         move-at b (entries_of ys) k h ∙ m.rest k (omega arith) ∙ sym (move-at b (entries_of xs) k h) in
         rw (r, u)
 
-    pub moves-turn : {t : ℕ} {zs : List ℕ} → t ≡ move_with inst (schedule_of b ys) i c start k → zs ≡ with_move_at ys k t → length zs ≡ schedule_length
+    pub moves-turn : {t : ℕ} {zs : StoredSchedule} → t ≡ move_with inst (schedule_of b ys) i c start k → zs ≡ with_move_at ys k t → WholeSchedule zs
         → MovesTo zs (suc k)
     moves-turn {t} e w long =
         let l : k < max_files = omega (arith, f.files) in
         rw w
         (record {
           size = rw w at long;
-          runs = λ j n. move-runs ys l t j n ∙ m.runs j n;
+          runs = m.runs;
           done = λ j n. elim (ℕ_discrete j k) [
-            | yes d ↦ rw d (move-here ys l t m.size ∙ e ∙ same_move)
-            | no d ↦ move-other ys l t j d ∙ m.done j (omega arith)
+            | yes d ↦ rw d (move-here ys (omega (arith, m.size.1, l)) t ∙ e ∙ same_move)
+            | no d ↦ move-other ys (omega (arith, m.size.1, l)) t j d ∙ m.done j (omega arith)
           ];
-          rest = λ j n. move-other ys l t j (omega arith) ∙ m.rest j (omega arith);
+          rest = λ j n. move-other ys (omega (arith, m.size.1, l)) t j (omega arith) ∙ m.rest j (omega arith);
         })
 
   -- past files that the task does not read
-  pub moves-skip : {ys : List ℕ} {k r : ℕ} → NextOf (file_count inst) (reads inst i) k r → MovesTo ys k → MovesTo ys r
+  pub moves-skip : {ys : StoredSchedule} {k r : ℕ} → NextOf (file_count inst) (reads inst i) k r → MovesTo ys k → MovesTo ys r
   moves-skip {k = k} next m = record {
     size = m.size;
     runs = m.runs;
@@ -107,5 +108,5 @@ module _ {b : Shape} {J : Job} (f : JobBounds b J) (xs : List ℕ) (i : ℕ) (c 
     rest = λ j n. m.rest j (omega (arith, next.from));
   }
 
-  pub moves-total : {ys : List ℕ} {n : ℕ} → n ≡ b.files → MovesTo ys n → list_below b.files (entries_of ys).move_start ≡ list_below (file_count inst) move_by
+  pub moves-total : {ys : StoredSchedule} {n : ℕ} → n ≡ b.files → MovesTo ys n → list_below b.files (entries_of ys).move_start ≡ list_below (file_count inst) move_by
   moves-total e m = list-cong b.files _ _ (λ k l. m.done k (omega arith)) ∙ ap (λ n. list_below n move_by) (sym (file-count b J))

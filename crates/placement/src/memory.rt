@@ -57,8 +57,8 @@ fn change_if(
 // The staircase with file k moved in to the task, if it crosses.
 fn move_in<'a>(
     shape: Shape,
-    job: &'a [u64; layout::JOB],
-    schedule: &'a [u64; layout::SCHEDULE],
+    job: &'a layout::Numbers,
+    schedule: &'a layout::Schedule,
     ticks: &mut [u64; PAIRS],
     free: &mut [u64; PAIRS],
     n: usize,
@@ -84,8 +84,8 @@ fn move_in<'a>(
 // The staircase with the task's crossing files moved in, each from its own move's start on.
 fn move_all_in<'a>(
     shape: Shape,
-    job: &'a [u64; layout::JOB],
-    schedule: &'a [u64; layout::SCHEDULE],
+    job: &'a layout::Numbers,
+    schedule: &'a layout::Schedule,
     first: &'a [u64; Board::MAX_TASKS],
     next: &'a [u64; Board::MAX_FILES],
     ticks: &mut [u64; PAIRS],
@@ -114,8 +114,8 @@ fn move_all_in<'a>(
 // its working memory are there from its start on; what it reads and its working memory go at its release.
 fn occupy<'a>(
     shape: Shape,
-    job: &'a [u64; layout::JOB],
-    schedule: &'a [u64; layout::SCHEDULE],
+    job: &'a layout::Numbers,
+    schedule: &'a layout::Schedule,
     first: &'a [u64; Board::MAX_TASKS],
     next: &'a [u64; Board::MAX_FILES],
     ticks: &mut [u64; PAIRS],
@@ -158,8 +158,8 @@ fn vacate(
 // Both memories' staircases with the task placed; the numbers of their steps.
 pub fn both_memories<'a>(
     shape: Shape,
-    job: &'a [u64; layout::JOB],
-    schedule: &'a [u64; layout::SCHEDULE],
+    job: &'a layout::Numbers,
+    schedule: &'a layout::Schedule,
     first: &'a [u64; Board::MAX_TASKS],
     next: &'a [u64; Board::MAX_FILES],
     blue_ticks: &mut [u64; PAIRS],

@@ -5,7 +5,7 @@ ghost use Rattle.rules.specs.Limits.{max_tasks};
 ghost use Rattle.rules.specs.Model.{file_count};
 ghost use Rattle.rules.specs.Scheduling.{reads, move_with};
 ghost use Rattle.model.specs.Colours.{as_colour};
-ghost use Rattle.model.specs.Layout.{entries_of, run_from, schedule_length, instance_of, schedule_of, JobInBounds};
+ghost use Rattle.model.specs.Layout.{entries_of, run_from, WholeSchedule, instance_of, schedule_of, JobInBounds};
 ghost use Rattle.links.specs.Chains.{Chained};
 
 use model::choice::select;
@@ -26,8 +26,8 @@ pub fn saturating_sub(m: u64, n: u64) -> u64
 // as before.
 fn move_with<'a>(
     shape: Shape,
-    job: &'a [u64; layout::JOB],
-    schedule: &'a [u64; layout::SCHEDULE],
+    job: &'a layout::Numbers,
+    schedule: &'a layout::Schedule,
     i: usize,
     colour: Colour,
     start: u64,
@@ -47,10 +47,10 @@ fn move_with<'a>(
 // The move starts of all files, with task i placed on the colour at the start. The runs stay. Only files that the task reads move.
 pub fn set_moves<'a>(
     shape: Shape,
-    job: &'a [u64; layout::JOB],
+    job: &'a layout::Numbers,
     first: &'a [u64; Board::MAX_TASKS],
     next: &'a [u64; Board::MAX_FILES],
-    schedule: &mut [u64; layout::SCHEDULE],
+    schedule: &mut layout::Schedule,
     i: usize,
     colour: Colour,
     start: u64,
@@ -58,8 +58,8 @@ pub fn set_moves<'a>(
     requires job_in_bounds { JobInBounds shape job.now }
     requires i_lt_tasks { i < shape.tasks }
     requires chained { Chained (instance_of shape job.now) (reads (instance_of shape job.now)) first.now next.now }
-    requires schedule_len { length schedule.old ≡ schedule_length }
-    ensures schedule_len_2 { length schedule.new ≡ schedule_length }
+    requires schedule_len { WholeSchedule schedule.old }
+    ensures schedule_len_2 { WholeSchedule schedule.new }
     ensures by_index { (j : ℕ) → j < max_tasks → run_from (entries_of schedule.new) j ≡ run_from (entries_of schedule.old) j }
     ensures schedule_after { list_below shape.files (entries_of schedule.new).move_start ≡
         list_below (file_count (instance_of shape job.now))

@@ -5,7 +5,7 @@ ghost use Rattle.rules.specs.Promises.{WellFormed, Trial};
 ghost use Rattle.rules.specs.Scheduling.{aware, reads, processor_start, assign as rules-assign};
 ghost use Rattle.rules.specs.Staircase.{Placed};
 ghost use Rattle.model.specs.Colours.{as_colour};
-ghost use Rattle.model.specs.Layout.{schedule_length, last_length, instance_of, schedule_of, partial_of, JobInBounds, last_start};
+ghost use Rattle.model.specs.Layout.{WholeSchedule, last_length, instance_of, schedule_of, partial_of, JobInBounds, last_start};
 ghost use Rattle.links.specs.Chains.{Chained};
 ghost use Rattle.staircase.specs.Stairs.{HoldsStairs};
 ghost use Rattle.placement.specs.Memory.{SizesOf};
@@ -22,10 +22,10 @@ use staircase::{Counts, PAIRS};
 // Task i in the timetable, on the colour at the start: the moves, the run and the last finish of its processor.
 fn assign<'a>(
     shape: Shape,
-    job: &'a [u64; layout::JOB],
+    job: &'a layout::Numbers,
     first: &'a [u64; Board::MAX_TASKS],
     next: &'a [u64; Board::MAX_FILES],
-    schedule: &mut [u64; layout::SCHEDULE],
+    schedule: &mut layout::Schedule,
     last: &mut [u64; layout::LAST],
     i: usize,
     colour: Colour,
@@ -33,10 +33,10 @@ fn assign<'a>(
 )
     requires job_in_bounds { JobInBounds shape job.now }
     requires chained { Chained (instance_of shape job.now) (reads (instance_of shape job.now)) first.now next.now }
-    requires schedule_len { (length schedule.old ≡ schedule_length) × (length last.old ≡ last_length) }
+    requires schedule_len { WholeSchedule schedule.old × (length last.old ≡ last_length) }
     requires i_lt_tasks { (i < shape.tasks) × (start ≤ last_start) }
     requires colour_bound { processor_start (instance_of shape job.now) (partial_of shape schedule.old last.old) (as_colour colour) ≤ start }
-    ensures schedule_len_2 { (length schedule.new ≡ schedule_length) × (length last.new ≡ last_length) }
+    ensures schedule_len_2 { WholeSchedule schedule.new × (length last.new ≡ last_length) }
     ensures last_after { partial_of shape schedule.new last.new ≡
         rules-assign (instance_of shape job.now) (partial_of shape schedule.old last.old) i (as_colour colour) start }
 {
@@ -52,10 +52,10 @@ fn assign<'a>(
 // Before and after it each memory's list of pairs equals what the hold rule gives for the partial timetable.
 pub fn place<'a>(
     shape: Shape,
-    job: &'a [u64; layout::JOB],
+    job: &'a layout::Numbers,
     first: &'a [u64; Board::MAX_TASKS],
     next: &'a [u64; Board::MAX_FILES],
-    schedule: &mut [u64; layout::SCHEDULE],
+    schedule: &mut layout::Schedule,
     last: &mut [u64; layout::LAST],
     blue_ticks: &mut [u64; PAIRS],
     blue_free: &mut [u64; PAIRS],
@@ -69,13 +69,13 @@ pub fn place<'a>(
 ) -> Counts
     requires job_in_bounds { JobInBounds shape job.now × WellFormed (instance_of shape job.now) }
     requires chained { Chained (instance_of shape job.now) (reads (instance_of shape job.now)) first.now next.now }
-    requires schedule_len { (length schedule.old ≡ schedule_length) × (length last.old ≡ last_length) }
+    requires schedule_len { WholeSchedule schedule.old × (length last.old ≡ last_length) }
     requires placed { Placed (instance_of shape job.now) (partial_of shape schedule.old last.old) }
     requires trial { Trial aware (instance_of shape job.now) (partial_of shape schedule.old last.old) i (as_colour colour) start × (start ≤ last_start) }
     requires sizes_of { SizesOf (instance_of shape job.now) (schedule_of shape schedule.old) i (as_colour colour) sizes }
     requires holds_stairs { HoldsStairs (instance_of shape job.now) (schedule_of shape schedule.old) blue blue_ticks.old blue_free.old counts.blue }
     requires holds_stairs_2 { HoldsStairs (instance_of shape job.now) (schedule_of shape schedule.old) red red_ticks.old red_free.old counts.red }
-    ensures schedule_len_2 { (length schedule.new ≡ schedule_length) × (length last.new ≡ last_length) }
+    ensures schedule_len_2 { WholeSchedule schedule.new × (length last.new ≡ last_length) }
     ensures last_after { partial_of shape schedule.new last.new ≡
         rules-assign (instance_of shape job.now) (partial_of shape schedule.old last.old) i (as_colour colour) start }
     ensures holds_stairs_3 { HoldsStairs (instance_of shape job.now)

@@ -32,8 +32,8 @@ impl Answer {
 // Writes a schedule with its true claim, if the buffer is long enough.
 pub fn write_plan<'a>(
     shape: Shape,
-    job: &'a [u64; layout::JOB],
-    schedule: &'a [u64; layout::SCHEDULE],
+    job: &'a layout::Numbers,
+    schedule: &'a layout::Schedule,
     claim: Claim,
     trials: u64,
     out: &mut [u8],
@@ -60,11 +60,11 @@ pub fn write_plan<'a>(
 }
 
 // The planner on the instance of an accepted board sheet.
-pub fn plan_instance(rule: Rule, shape: Shape, job: &[u64; layout::JOB], out: &mut [u8]) -> Answer
+pub fn plan_instance(rule: Rule, shape: Shape, job: &layout::Numbers, out: &mut [u8]) -> Answer
     requires { WellFormed (instance_of shape job.now) }
     ensures { as_answer result out.new ≡ plan_on (as_planner rule) (instance_of shape job.now) out.old }
 {
-    let mut schedule = [0; layout::SCHEDULE];
+    let mut schedule = layout::Schedule::new();
     match planner::run(rule, shape, job, &mut schedule) {
         Outcome::Stuck { placed, trials } => Answer {
             number: Answer::STUCK,

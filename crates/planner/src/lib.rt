@@ -1,11 +1,11 @@
 // The planners: rounds, each of which places one task, until all are placed or none fits.
 #![tactic(auto)]
 
-ghost use Rattle.std.specs.Prelude.{◌≡◌, replicate};
+ghost use Rattle.std.specs.Prelude.{◌≡◌};
 ghost use Rattle.rules.specs.Limits.{memory_limits};
 ghost use Rattle.rules.specs.Promises.{WellFormed};
 ghost use Rattle.rules.specs.Scheduling.{memory_of, outcome};
-ghost use Rattle.model.specs.Layout.{schedule_length, instance_of, schedule_of};
+ghost use Rattle.model.specs.Layout.{unplaced, instance_of, schedule_of};
 ghost use Rattle.starts.specs.Memories.{as_memory};
 ghost use Rattle.planner.specs.Outcomes.{as_planner, as_outcome, Claims};
 ghost use Rattle.planner.specs.Boards.{board_by};
@@ -71,11 +71,11 @@ fn board_by(memory: Memory, board: Board) -> Board
 pub fn run(
     rule: Rule,
     shape: Shape,
-    job: &[u64; layout::JOB],
-    schedule: &mut [u64; layout::SCHEDULE],
+    job: &layout::Numbers,
+    schedule: &mut layout::Schedule,
 ) -> Outcome
     requires well_formed { WellFormed (instance_of shape job.now) }
-    requires schedule_value { schedule.old ≡ replicate schedule_length 0 }
+    requires schedule_value { schedule.old ≡ unplaced }
     ensures schedule_after { as_outcome result (schedule_of shape schedule.new) ≡ outcome (as_planner rule) (instance_of shape job.now) }
     ensures claims { Claims (instance_of shape job.now) (schedule_of shape schedule.new) result }
 {

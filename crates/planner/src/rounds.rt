@@ -1,11 +1,11 @@
 // The rounds of a planner, and what is kept beside the partial schedule from one to the next.
-ghost use Rattle.std.specs.Prelude.{◌≡◌, ◌*◌, ◌≤◌, ◌<◌, length, get_or, replicate};
+ghost use Rattle.std.specs.Prelude.{◌≡◌, ◌*◌, ◌≤◌, ◌<◌, length, get_or};
 ghost use Rattle.rules.specs.Count.{list_below};
 ghost use Rattle.rules.specs.Model.{task_count};
 ghost use Rattle.rules.specs.Promises.{WellFormed, Trial};
 ghost use Rattle.rules.specs.Scheduling.{aware, reads, makes, by_weight, round_of, assign, outcome};
 ghost use Rattle.model.specs.Colours.{as_colour};
-ghost use Rattle.model.specs.Layout.{Entries, schedule_length, last_length, instance_of, schedule_of, partial_from, partial_of};
+ghost use Rattle.model.specs.Layout.{Entries, unplaced, WholeSchedule, last_length, instance_of, schedule_of, partial_from, partial_of};
 ghost use Rattle.model.specs.Layout.{JobInBounds, LastBounds, last_start};
 ghost use Rattle.links.specs.Chains.{Chained};
 ghost use Rattle.needs.specs.Table.{Needs, NeedsBounds};
@@ -33,7 +33,7 @@ use staircase::{Counts, PAIRS};
 fn round<'a>(
     rule: Rule,
     shape: Shape,
-    job: &'a [u64; layout::JOB],
+    job: &'a layout::Numbers,
     last: &'a [u64; layout::LAST],
     order: &'a [u64; Board::MAX_TASKS],
     needs: &'a [u64; TABLE],
@@ -66,12 +66,12 @@ fn round<'a>(
 // Task i placed on the colour at its earliest start, and all that is kept beside the schedule with it.
 fn place_task<'a>(
     shape: Shape,
-    job: &'a [u64; layout::JOB],
+    job: &'a layout::Numbers,
     made_first: &'a [u64; Board::MAX_TASKS],
     made_next: &'a [u64; Board::MAX_FILES],
     read_first: &'a [u64; Board::MAX_TASKS],
     read_next: &'a [u64; Board::MAX_FILES],
-    schedule: &mut [u64; layout::SCHEDULE],
+    schedule: &mut layout::Schedule,
     last: &mut [u64; layout::LAST],
     needs: &mut [u64; TABLE],
     blue_ticks: &mut [u64; PAIRS],
@@ -89,13 +89,13 @@ fn place_task<'a>(
         blue_ticks.old blue_free.old red_ticks.old red_free.old n }
     requires needs_bounds { NeedsBounds needs.old × (start ≤ last_start) }
     requires trial { Trial aware (instance_of shape job.now) (partial_of shape schedule.old last.old) i (as_colour colour) start }
-    requires schedule_len { (length schedule.old ≡ schedule_length) × (length last.old ≡ last_length) }
+    requires schedule_len { WholeSchedule schedule.old × (length last.old ≡ last_length) }
     ensures last_after { partial_of shape schedule.new last.new ≡
         assign (instance_of shape job.now) (partial_of shape schedule.old last.old) i (as_colour colour) start }
     ensures kept_2 { Kept (instance_of shape job.now) (partial_of shape schedule.new last.new) needs.new
         blue_ticks.new blue_free.new red_ticks.new red_free.new result }
     ensures needs_bounds_2 { NeedsBounds needs.new }
-    ensures schedule_len_2 { (length schedule.new ≡ schedule_length) × (length last.new ≡ last_length) }
+    ensures schedule_len_2 { WholeSchedule schedule.new × (length last.new ≡ last_length) }
 {
     let sizes = Sizes {
         room: table::room(needs, i),
@@ -116,17 +116,17 @@ fn place_task<'a>(
 fn rounds<'a>(
     rule: Rule,
     shape: Shape,
-    job: &'a [u64; layout::JOB],
+    job: &'a layout::Numbers,
     made_first: &'a [u64; Board::MAX_TASKS],
     made_next: &'a [u64; Board::MAX_FILES],
     read_first: &'a [u64; Board::MAX_TASKS],
     read_next: &'a [u64; Board::MAX_FILES],
     order: &'a [u64; Board::MAX_TASKS],
-    schedule: &mut [u64; layout::SCHEDULE],
+    schedule: &mut layout::Schedule,
     needs: &mut [u64; TABLE],
 ) -> Outcome
     requires well_formed { WellFormed (instance_of shape job.now) × Suited (as_planner rule) (instance_of shape job.now) }
-    requires schedule_value { schedule.old ≡ replicate schedule_length 0 }
+    requires schedule_value { schedule.old ≡ unplaced }
     requires chained { Chained (instance_of shape job.now) (makes (instance_of shape job.now)) made_first.now made_next.now }
     requires chained_2 { Chained (instance_of shape job.now) (reads (instance_of shape job.now)) read_first.now read_next.now }
     requires order_bounds { OrderBounds shape order.now }
@@ -201,11 +201,11 @@ fn rounds<'a>(
 pub fn start(
     rule: Rule,
     shape: Shape,
-    job: &[u64; layout::JOB],
-    schedule: &mut [u64; layout::SCHEDULE],
+    job: &layout::Numbers,
+    schedule: &mut layout::Schedule,
 ) -> Outcome
     requires well_formed { WellFormed (instance_of shape job.now) × Suited (as_planner rule) (instance_of shape job.now) }
-    requires schedule_value { schedule.old ≡ replicate schedule_length 0 }
+    requires schedule_value { schedule.old ≡ unplaced }
     ensures schedule_after { as_outcome result (schedule_of shape schedule.new) ≡ outcome (as_planner rule) (instance_of shape job.now) }
     ensures claims { Claims (instance_of shape job.now) (schedule_of shape schedule.new) result }
 {

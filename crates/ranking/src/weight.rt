@@ -15,7 +15,7 @@ use rules::Board;
 // The greatest, over the files that task i makes, of move time plus reader's weight; 0 if it makes none. Walks the chain of these files.
 fn heaviest_reader<'a>(
     shape: Shape,
-    job: &'a [u64; layout::JOB],
+    job: &'a layout::Numbers,
     first: &'a [u64; Board::MAX_TASKS],
     next: &'a [u64; Board::MAX_FILES],
     weights: &'a [u64; Board::MAX_TASKS],
@@ -40,7 +40,7 @@ fn heaviest_reader<'a>(
 // The weight of each task, from the last task down: a file's reader comes behind its maker.
 pub fn weights<'a>(
     shape: Shape,
-    job: &'a [u64; layout::JOB],
+    job: &'a layout::Numbers,
     first: &'a [u64; Board::MAX_TASKS],
     next: &'a [u64; Board::MAX_FILES],
 ) -> [u64; Board::MAX_TASKS]

@@ -6,6 +6,7 @@ use mathlib.Core.List.{List, []}
 use Rattle.rules.specs.Count.{list_below}
 use Rattle.rules.specs.Model.{Instance, Run, Schedule, moved}
 use Rattle.model.specs.declared.layout.Shape.{Shape}
+use Rattle.model.specs.declared.layout.Schedule.{Schedule as StoredSchedule}
 use Rattle.model.specs.Layout.{Job, Entries, entries_of, run_from, instance_from, schedule_from}
 use Rattle.schedule.proofs.StoreLaws.{moves_of}
 use Rattle.schedule.proofs.ReadLoops.{MovesRead}
@@ -18,7 +19,7 @@ unfolding schedule_from
 runs-from b L = refl
 
 -- which files move depends on the runs alone
-pub moved-so-far : {b : Shape} {J : Job} {bs old schedule : List ℕ} {from line at k i : ℕ} → MovesRead b J bs old schedule from line at k i
+pub moved-so-far : {b : Shape} {J : Job} {bs : List ℕ} {old schedule : StoredSchedule} {from line at k i : ℕ} → MovesRead b J bs old schedule from line at k i
     → {r x : Bool} → r ≡ moved (instance_from b J) (schedule_from b (entries_of schedule)) i → r ≡ x
     → moved (instance_from b J) (moves_of b.tasks i (entries_of schedule)) i ≡ x
 moved-so-far {b} {J} {schedule = schedule} {i = i} q e y =

@@ -22,7 +22,8 @@ use Rattle.rules.specs.declared.refusal.Fault.{Fault as CodeFault}
 use Rattle.rules.specs.Refusals.{as_fault}
 use Rattle.text.proofs.FirstLineLaws.{no_line}
 use Rattle.model.specs.declared.layout.Shape.{Shape}
-use Rattle.model.specs.Layout.{Job, Entries, entries_of, instance_from, schedule_from, JobBounds, schedule_length, with_run_at, with_move_at}
+use Rattle.model.specs.declared.layout.Schedule.{Schedule as StoredSchedule}
+use Rattle.model.specs.Layout.{Job, Entries, entries_of, instance_from, schedule_from, JobBounds, WholeSchedule, with_run_at, with_move_at}
 use Rattle.model.proofs.LayoutLaws.{task-count, file-count, maker-at, reader_at}
 use Rattle.model.specs.declared.claim.Claim.{Claim as Numbers}
 use Rattle.schedule.specs.declared.lines.Line.{Line as Said}
@@ -65,13 +66,13 @@ module _ {I : Instance} {bs : List ℕ} {at next : ℕ} (said : Said) (o : LineA
     claim-last h = sym (claim-then ∙ ap (read_end I P (as_claim c) (suc k)) (no-line-left bs next h) ∙ end_read I P (as_claim c) (suc k))
 
 -- ---- the runs of the first i tasks are read
-pub record RunsRead (b : Shape) (bs schedule : List ℕ) (at i : ℕ) : Type 0 where
+pub record RunsRead (b : Shape) (bs : List ℕ) (schedule : StoredSchedule) (at i : ℕ) : Type 0 where
   pub passed : i ≤ b.tasks
   pub within : at ≤ length bs
   pub left : (J : Job) → let I = instance_from b J in
       read_runs I (task_count I) nothing 1 (lines_of bs) ≡ read_runs I (task_count I - i) (runs_of i (entries_of schedule)) (suc i) (lines_of (drop at bs))
 
-pub runs-start : (b : Shape) (bs schedule : List ℕ) → RunsRead b bs schedule 0 0
+pub runs-start : (b : Shape) (bs : List ℕ) (schedule : StoredSchedule) → RunsRead b bs schedule 0 0
 unfolding list_below
 runs-start b bs schedule = record { passed = omega arith; within = omega arith; left = λ J. rw sub-zero }
 
@@ -79,7 +80,7 @@ runs_done : (I : Instance) (P : Schedule) (k : ℕ) (ls : List Line) → read_ru
 unfolding read_runs_by
 runs_done I P k ls = refl
 
-module _ {b : Shape} {bs schedule : List ℕ} {at i : ℕ} (q : RunsRead b bs schedule at i) where
+module _ {b : Shape} {bs : List ℕ} {schedule : StoredSchedule} {at i : ℕ} (q : RunsRead b bs schedule at i) where
   pub runs-end : b.tasks ≤ i → (J : Job) → let I = instance_from b J in
       read_moves I (file_count I) (runs_of b.tasks (entries_of schedule)) (i + 1) (lines_of (drop at bs)) ≡ read_runs I (task_count I) nothing 1 (lines_of bs)
   runs-end h J =
@@ -112,16 +113,16 @@ module _ {b : Shape} {bs schedule : List ℕ} {at i : ℕ} (q : RunsRead b bs sc
       run-due : j ≡ i + 1 → due (run_of (suc i)) (as_reading said) ≡ right (record { processor = p; start = s })
       run-due z = let m : eqb j (suc i) ≡ true = eq-eqb j (suc i) (z ∙ add-one i) in rw (e, m)
 
-      run_on : j ≡ i + 1 → b.tasks ≤ max_tasks → length schedule ≡ schedule_length
+      run_on : j ≡ i + 1 → b.tasks ≤ max_tasks → WholeSchedule schedule
           → read_runs I (task_count I) nothing 1 (lines_of bs)
           ≡ read_runs I (task_count I - suc i) (runs_of (suc i) (entries_of (with_run_at schedule i p s))) (suc (suc i)) (lines_of (drop next bs))
       run_on z few long =
           q.left J ∙ run-taken o (runs_of i (entries_of schedule)) (suc i) i in-tasks _ (run-due z)
           ∙ ap (λ P. read_runs I (task_count I - suc i) P (suc (suc i)) (lines_of (drop next bs))) (sym (run-stored schedule long (omega arith) p s))
 
-  pub runs-next : i < b.tasks → b.tasks ≤ max_tasks → length schedule ≡ schedule_length → (said : Said) (next j p s : ℕ) → next ≤ length bs
+  pub runs-next : i < b.tasks → b.tasks ≤ max_tasks → WholeSchedule schedule → (said : Said) (next j p s : ℕ) → next ≤ length bs
       → ((J : Job) → LineAt (instance_from b J) bs at (as_reading said) next) → said ≡ Code.Run j p s → j ≡ i + 1
-      → (new : List ℕ) → new ≡ with_run_at schedule i p s → RunsRead b bs new next (i + 1)
+      → (new : StoredSchedule) → new ≡ with_run_at schedule i p s → RunsRead b bs new next (i + 1)
   runs-next h few long said next j p s n o e z new stored =
       rw (add-one i, stored)
       (record {
@@ -160,7 +161,7 @@ module _ {I : Instance} {bs : List ℕ} {at next : ℕ} (said : Said) (o : LineA
         told (right t) (rw (e, z, w))
 
 -- ---- the moves of the first i files are read, from the line that starts at `from`, with the number `line`, on
-pub record MovesRead (b : Shape) (J : Job) (bs old schedule : List ℕ) (from line at k i : ℕ) : Type 0 where
+pub record MovesRead (b : Shape) (J : Job) (bs : List ℕ) (old schedule : StoredSchedule) (from line at k i : ℕ) : Type 0 where
   pub passed : i ≤ b.files
   pub within : at ≤ length bs
   pub few : k ≤ line + i
@@ -168,7 +169,7 @@ pub record MovesRead (b : Shape) (J : Job) (bs old schedule : List ℕ) (from li
       read_moves I (file_count I) (runs_of b.tasks (entries_of old)) line (lines_of (drop from bs))
       ≡ read_moves I (file_count I - i) (moves_of b.tasks i (entries_of schedule)) k (lines_of (drop at bs))
 
-pub moves-start : (b : Shape) (J : Job) (bs schedule : List ℕ) (from line : ℕ) → from ≤ length bs → MovesRead b J bs schedule schedule from line from line 0
+pub moves-start : (b : Shape) (J : Job) (bs : List ℕ) (schedule : StoredSchedule) (from line : ℕ) → from ≤ length bs → MovesRead b J bs schedule schedule from line from line 0
 unfolding list_below
 moves-start b J bs schedule from line h = record { passed = omega arith; within = h; few = omega arith; left = rw sub-zero }
 
@@ -180,7 +181,7 @@ all-moves : (b : Shape) (L : Entries) → moves_of b.tasks b.files L ≡ schedul
 unfolding schedule_from
 all-moves b L = refl
 
-module _ {b : Shape} {J : Job} {bs old schedule : List ℕ} {from line at k i : ℕ} (q : MovesRead b J bs old schedule from line at k i) where
+module _ {b : Shape} {J : Job} {bs : List ℕ} {old schedule : StoredSchedule} {from line at k i : ℕ} (q : MovesRead b J bs old schedule from line at k i) where
   abbrev whole : ScheduleRead
   whole = read_moves (instance_from b J) (file_count (instance_from b J)) (runs_of b.tasks (entries_of old)) line (lines_of (drop from bs))
 
@@ -218,8 +219,8 @@ module _ {b : Shape} {J : Job} {bs old schedule : List ℕ} {from line at k i : 
           let (next, d) = subst Here e t in
           sym (q.left ∙ move-refused d.read so_far k i in-files m (as_fault w) (ap (λ f. due f d.line) (sym (file-due maker reader u v)) ∙ d.due))
 
-      pub moves_next : (r : MoveRead) → Here r → (t next : ℕ) → r ≡ Move.Start t next → JobBounds b J → length schedule ≡ schedule_length
-          → (new : List ℕ) → new ≡ with_move_at schedule i t → MovesRead b J bs old new from line next (k + 1) (i + 1)
+      pub moves_next : (r : MoveRead) → Here r → (t next : ℕ) → r ≡ Move.Start t next → JobBounds b J → WholeSchedule schedule
+          → (new : StoredSchedule) → new ≡ with_move_at schedule i t → MovesRead b J bs old new from line next (k + 1) (i + 1)
       moves_next r o t next e bounds long new stored =
           let (d, n) = subst Here e o in
           rw (add-one i, add-one k, stored)
@@ -233,7 +234,7 @@ module _ {b : Shape} {J : Job} {bs old schedule : List ℕ} {from line at k i : 
                 (sym (move-stored schedule long (omega (arith, bounds.files)) t b.tasks bounds.tasks));
           })
 
-    pub moves-skip : moved JI so_far i ≡ false → JobBounds b J → length schedule ≡ schedule_length → (new : List ℕ) → new ≡ with_move_at schedule i 0
+    pub moves-skip : moved JI so_far i ≡ false → JobBounds b J → WholeSchedule schedule → (new : StoredSchedule) → new ≡ with_move_at schedule i 0
         → MovesRead b J bs old new from line at k (i + 1)
     moves-skip m bounds long new stored =
         rw (add-one i, stored)

@@ -65,7 +65,7 @@ fn line_at(shape: Shape, paper: &[u8], at: usize) -> Cut
 }
 
 // Reads the runs, a line for each task, into the schedule.
-fn read_runs(shape: Shape, paper: &[u8], schedule: &mut [u64; layout::SCHEDULE]) -> Progress
+fn read_runs(shape: Shape, paper: &[u8], schedule: &mut layout::Schedule) -> Progress
     requires processors { Processors shape }
     requires tasks_le_max_tasks { shape.tasks ≤ max_tasks }
     ensures result_after { (J : Job) →
@@ -123,9 +123,9 @@ fn move_at(shape: Shape, paper: &[u8], at: usize, maker: u64, reader: u64) -> Mo
 // whose tasks run in memories of different colour. The move start of any other file is 0.
 fn read_moves<'a>(
     shape: Shape,
-    job: &'a [u64; layout::JOB],
+    job: &'a layout::Numbers,
     paper: &'a [u8],
-    schedule: &mut [u64; layout::SCHEDULE],
+    schedule: &mut layout::Schedule,
     from: usize,
     line: u64,
 ) -> Progress
@@ -183,9 +183,9 @@ fn read_claim(shape: Shape, paper: &[u8], at: usize, k: u64) -> ScheduleRead
 // Reads a timetable into the schedule.
 pub fn read<'a>(
     shape: Shape,
-    job: &'a [u64; layout::JOB],
+    job: &'a layout::Numbers,
     paper: &'a [u8],
-    schedule: &mut [u64; layout::SCHEDULE],
+    schedule: &mut layout::Schedule,
 ) -> ScheduleRead
     requires { JobInBounds shape job.now }
     ensures { as_read (schedule_of shape schedule.new) result ≡ read_schedule (instance_of shape job.now) paper.now }

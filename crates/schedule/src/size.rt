@@ -40,7 +40,7 @@ fn claim_size(span: u64, blue: u64, red: u64) -> usize
 }
 
 // The bytes of all runs' lines.
-fn runs_size(shape: Shape, schedule: &[u64; layout::SCHEDULE]) -> usize
+fn runs_size(shape: Shape, schedule: &layout::Schedule) -> usize
     requires { shape.tasks ≤ max_tasks }
     ensures value { result ≡ length (run_lines (schedule_of shape schedule.now) shape.tasks) }
     ensures upper_bound { result ≤ longest * max_tasks }
@@ -59,11 +59,7 @@ fn runs_size(shape: Shape, schedule: &[u64; layout::SCHEDULE]) -> usize
 }
 
 // The bytes of all moves' lines.
-fn moves_size<'a>(
-    shape: Shape,
-    job: &'a [u64; layout::JOB],
-    schedule: &'a [u64; layout::SCHEDULE],
-) -> usize
+fn moves_size<'a>(shape: Shape, job: &'a layout::Numbers, schedule: &'a layout::Schedule) -> usize
     requires { JobInBounds shape job.now }
     ensures value { result ≡ length (move_lines (instance_of shape job.now) (schedule_of shape schedule.now) shape.files) }
     ensures upper_bound { result ≤ longest * max_files }
@@ -86,8 +82,8 @@ fn moves_size<'a>(
 // The bytes of a timetable.
 pub fn schedule_size<'a>(
     shape: Shape,
-    job: &'a [u64; layout::JOB],
-    schedule: &'a [u64; layout::SCHEDULE],
+    job: &'a layout::Numbers,
+    schedule: &'a layout::Schedule,
     claim: Claim,
 ) -> usize
     requires { JobInBounds shape job.now }

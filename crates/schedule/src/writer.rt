@@ -40,7 +40,7 @@ fn write_claim(out: &mut [u8], claim: Claim) -> usize
 }
 
 // Writes the runs, a line for each task.
-fn write_runs(shape: Shape, schedule: &[u64; layout::SCHEDULE], out: &mut [u8]) -> usize
+fn write_runs(shape: Shape, schedule: &layout::Schedule, out: &mut [u8]) -> usize
     requires tasks_le_max_tasks { shape.tasks ≤ max_tasks }
     requires tasks_in_bounds { length (run_lines (schedule_of shape schedule.now) shape.tasks) ≤ length out.old }
     ensures { Wrote (run_lines (schedule_of shape schedule.now) shape.tasks) result out.old out.new }
@@ -60,8 +60,8 @@ fn write_runs(shape: Shape, schedule: &[u64; layout::SCHEDULE], out: &mut [u8]) 
 // Writes the moves, a line for each file whose tasks run in memories of different colour.
 fn write_moves<'a>(
     shape: Shape,
-    job: &'a [u64; layout::JOB],
-    schedule: &'a [u64; layout::SCHEDULE],
+    job: &'a layout::Numbers,
+    schedule: &'a layout::Schedule,
     out: &mut [u8],
 ) -> usize
     requires job_in_bounds { JobInBounds shape job.now }
@@ -89,8 +89,8 @@ fn write_moves<'a>(
 // Writes a timetable.
 pub fn write<'a>(
     shape: Shape,
-    job: &'a [u64; layout::JOB],
-    schedule: &'a [u64; layout::SCHEDULE],
+    job: &'a layout::Numbers,
+    schedule: &'a layout::Schedule,
     claim: Claim,
     out: &mut [u8],
 ) -> usize

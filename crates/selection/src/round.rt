@@ -53,7 +53,7 @@ fn idle_from(shape: Shape, last: &[u64; layout::LAST]) -> Idle
 fn try_task<'a>(
     memory: Memory,
     shape: Shape,
-    job: &'a [u64; layout::JOB],
+    job: &'a layout::Numbers,
     needs: &'a [u64; TABLE],
     blue_ticks: &'a [u64; PAIRS],
     blue_free: &'a [u64; PAIRS],
@@ -89,7 +89,7 @@ fn try_task<'a>(
 pub fn earliest_round<'a>(
     memory: Memory,
     shape: Shape,
-    job: &'a [u64; layout::JOB],
+    job: &'a layout::Numbers,
     last: &'a [u64; layout::LAST],
     needs: &'a [u64; TABLE],
     blue_ticks: &'a [u64; PAIRS],
@@ -128,7 +128,7 @@ pub fn earliest_round<'a>(
 pub fn first_that_fits<'a>(
     memory: Memory,
     shape: Shape,
-    job: &'a [u64; layout::JOB],
+    job: &'a layout::Numbers,
     last: &'a [u64; layout::LAST],
     order: &'a [u64; Board::MAX_TASKS],
     needs: &'a [u64; TABLE],

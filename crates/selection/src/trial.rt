@@ -54,7 +54,7 @@ fn tried(task: u64, colour: Colour, free: Free) -> Choice
 // The finish of a task that starts so on a colour.
 pub fn finish_on(
     shape: Shape,
-    job: &[u64; layout::JOB],
+    job: &layout::Numbers,
     task: u64,
     colour: Colour,
     start: u64,
@@ -68,7 +68,7 @@ pub fn finish_on(
 }
 
 // The choice with the earlier finish, ties to the first.
-pub fn earlier(shape: Shape, job: &[u64; layout::JOB], a: Choice, b: Choice) -> Choice
+pub fn earlier(shape: Shape, job: &layout::Numbers, a: Choice, b: Choice) -> Choice
     requires job_in_bounds { JobInBounds shape job.now }
     requires choice_bounds { ChoiceBounds shape a × ChoiceBounds shape b }
     ensures result_value { as_choice result ≡ rules-earlier (instance_of shape job.now) (as_choice a) (as_choice b) }
@@ -101,7 +101,7 @@ pub fn earlier(shape: Shape, job: &[u64; layout::JOB], a: Choice, b: Choice) -> 
 pub fn both_colours<'a>(
     memory: Memory,
     shape: Shape,
-    job: &'a [u64; layout::JOB],
+    job: &'a layout::Numbers,
     needs: &'a [u64; TABLE],
     blue_ticks: &'a [u64; PAIRS],
     blue_free: &'a [u64; PAIRS],

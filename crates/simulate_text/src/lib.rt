@@ -27,7 +27,7 @@ fn wanted_steps(made: u64, steps: u64) -> u64
 // Simulates a timetable on the instance of an accepted board sheet.
 pub fn simulate_paper<'a>(
     shape: Shape,
-    job: &'a [u64; layout::JOB],
+    job: &'a layout::Numbers,
     paper: &'a [u8],
     made: u64,
     steps: u64,
@@ -36,7 +36,7 @@ pub fn simulate_paper<'a>(
     ensures { as_simulation result ≡ simulate_on (instance_of shape job.now) paper.now made steps }
 {
     let wanted = wanted_steps(made, steps);
-    let mut schedule = [0; layout::SCHEDULE];
+    let mut schedule = layout::Schedule::new();
     match schedule::read(shape, job, paper, &mut schedule) {
         ScheduleRead::Refused(fault, line) => {
             Simulation::refused(text::timetable_number(fault), line)

@@ -19,8 +19,8 @@ use validator::timing::{moves_early, starts_early};
 // Whether two tasks are two, and their runs are on one processor and share an instant.
 fn overlapping_tasks<'a>(
     shape: Shape,
-    job: &'a [u64; layout::JOB],
-    schedule: &'a [u64; layout::SCHEDULE],
+    job: &'a layout::Numbers,
+    schedule: &'a layout::Schedule,
     i: usize,
     j: usize,
 ) -> bool
@@ -40,8 +40,8 @@ fn overlapping_tasks<'a>(
 // Whether task j's run starts by tick t and overlaps task i's.
 fn begun_overlaps<'a>(
     shape: Shape,
-    job: &'a [u64; layout::JOB],
-    schedule: &'a [u64; layout::SCHEDULE],
+    job: &'a layout::Numbers,
+    schedule: &'a layout::Schedule,
     t: u64,
     i: usize,
     j: usize,
@@ -59,8 +59,8 @@ fn begun_overlaps<'a>(
 // Whether task i's run overlaps one that starts by tick t.
 fn overlaps_begun<'a>(
     shape: Shape,
-    job: &'a [u64; layout::JOB],
-    schedule: &'a [u64; layout::SCHEDULE],
+    job: &'a layout::Numbers,
+    schedule: &'a layout::Schedule,
     t: u64,
     i: usize,
 ) -> bool
@@ -81,8 +81,8 @@ fn overlaps_begun<'a>(
 // Whether task i's run starts at tick t and overlaps one that starts by then: most runs start at another tick, and cost no look at the others.
 fn starts_overlapping<'a>(
     shape: Shape,
-    job: &'a [u64; layout::JOB],
-    schedule: &'a [u64; layout::SCHEDULE],
+    job: &'a layout::Numbers,
+    schedule: &'a layout::Schedule,
     t: u64,
     i: usize,
 ) -> bool
@@ -99,8 +99,8 @@ fn starts_overlapping<'a>(
 // 15: whether two runs on one processor share an instant, and tick t is the later of their starts.
 fn shares_at<'a>(
     shape: Shape,
-    job: &'a [u64; layout::JOB],
-    schedule: &'a [u64; layout::SCHEDULE],
+    job: &'a layout::Numbers,
+    schedule: &'a layout::Schedule,
     t: u64,
 ) -> bool
     requires { InBounds shape job.now schedule.now }
@@ -149,8 +149,8 @@ fn early_by(times: FileTimes, t: u64) -> bool
 // Whether tick t is an early move or an early start of file k.
 fn file_early<'a>(
     shape: Shape,
-    job: &'a [u64; layout::JOB],
-    schedule: &'a [u64; layout::SCHEDULE],
+    job: &'a layout::Numbers,
+    schedule: &'a layout::Schedule,
     t: u64,
     k: usize,
 ) -> bool
@@ -164,8 +164,8 @@ fn file_early<'a>(
 // 16: whether tick t is an early move or an early start.
 fn early_at<'a>(
     shape: Shape,
-    job: &'a [u64; layout::JOB],
-    schedule: &'a [u64; layout::SCHEDULE],
+    job: &'a layout::Numbers,
+    schedule: &'a layout::Schedule,
     t: u64,
 ) -> bool
     requires { InBounds shape job.now schedule.now }
@@ -184,8 +184,8 @@ fn early_at<'a>(
 // Whether a memory is over its limit at tick t: what is held then is counted, by the definition.
 fn over_at<'a>(
     shape: Shape,
-    job: &'a [u64; layout::JOB],
-    schedule: &'a [u64; layout::SCHEDULE],
+    job: &'a layout::Numbers,
+    schedule: &'a layout::Schedule,
     t: u64,
 ) -> bool
     requires { InBounds shape job.now schedule.now }
@@ -200,8 +200,8 @@ fn over_at<'a>(
 // The fault of tick t: 15, 16 or 17 in this order, or 0.
 pub fn fault_at<'a>(
     shape: Shape,
-    job: &'a [u64; layout::JOB],
-    schedule: &'a [u64; layout::SCHEDULE],
+    job: &'a layout::Numbers,
+    schedule: &'a layout::Schedule,
     t: u64,
 ) -> u64
     requires { InBounds shape job.now schedule.now }

@@ -12,8 +12,8 @@ use rules::Board;
 // Whether task i occupies the processor at tick t.
 fn occupies_at<'a>(
     shape: Shape,
-    job: &'a [u64; layout::JOB],
-    schedule: &'a [u64; layout::SCHEDULE],
+    job: &'a layout::Numbers,
+    schedule: &'a layout::Schedule,
     t: u64,
     processor: u64,
     i: usize,
@@ -34,8 +34,8 @@ fn occupies_at<'a>(
 // The task that the processor runs at tick t, counted from 1, or 0. Where runs share an instant, the lowest.
 fn running_on<'a>(
     shape: Shape,
-    job: &'a [u64; layout::JOB],
-    schedule: &'a [u64; layout::SCHEDULE],
+    job: &'a layout::Numbers,
+    schedule: &'a layout::Schedule,
     t: u64,
     processor: u64,
 ) -> u64
@@ -55,8 +55,8 @@ fn running_on<'a>(
 // What each processor runs at tick t.
 pub fn running_at<'a>(
     shape: Shape,
-    job: &'a [u64; layout::JOB],
-    schedule: &'a [u64; layout::SCHEDULE],
+    job: &'a layout::Numbers,
+    schedule: &'a layout::Schedule,
     t: u64,
 ) -> [u64; Board::ALL_PROCESSORS]
     requires { InBounds shape job.now schedule.now }
@@ -87,8 +87,8 @@ fn memory_number(blue: bool, red: bool) -> u64
 // Where file k is held at tick t.
 fn held_in<'a>(
     shape: Shape,
-    job: &'a [u64; layout::JOB],
-    schedule: &'a [u64; layout::SCHEDULE],
+    job: &'a layout::Numbers,
+    schedule: &'a layout::Schedule,
     t: u64,
     k: usize,
 ) -> u64
@@ -106,8 +106,8 @@ fn held_in<'a>(
 // Where each file is held at tick t.
 pub fn contents_at<'a>(
     shape: Shape,
-    job: &'a [u64; layout::JOB],
-    schedule: &'a [u64; layout::SCHEDULE],
+    job: &'a layout::Numbers,
+    schedule: &'a layout::Schedule,
     t: u64,
 ) -> [u64; Board::MAX_FILES]
     requires { InBounds shape job.now schedule.now }

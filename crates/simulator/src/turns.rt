@@ -63,8 +63,8 @@ fn next_of_holds(from: u64, blue: Hold, red: Hold) -> u64
 // The next start or end of task i's run.
 fn next_of_run<'a>(
     shape: Shape,
-    job: &'a [u64; layout::JOB],
-    schedule: &'a [u64; layout::SCHEDULE],
+    job: &'a layout::Numbers,
+    schedule: &'a layout::Schedule,
     i: usize,
     from: u64,
 ) -> u64
@@ -83,8 +83,8 @@ fn next_of_run<'a>(
 // The next start or end of task i's run or of the hold of its working memory.
 fn next_of_task<'a>(
     shape: Shape,
-    job: &'a [u64; layout::JOB],
-    schedule: &'a [u64; layout::SCHEDULE],
+    job: &'a layout::Numbers,
+    schedule: &'a layout::Schedule,
     i: usize,
     from: u64,
 ) -> u64
@@ -103,8 +103,8 @@ fn next_of_task<'a>(
 // The next start or end of file k's move.
 fn next_of_move<'a>(
     shape: Shape,
-    job: &'a [u64; layout::JOB],
-    schedule: &'a [u64; layout::SCHEDULE],
+    job: &'a layout::Numbers,
+    schedule: &'a layout::Schedule,
     k: usize,
     from: u64,
 ) -> u64
@@ -123,8 +123,8 @@ fn next_of_move<'a>(
 // The next start or end of file k's move or of one of its holds.
 fn next_of_file<'a>(
     shape: Shape,
-    job: &'a [u64; layout::JOB],
-    schedule: &'a [u64; layout::SCHEDULE],
+    job: &'a layout::Numbers,
+    schedule: &'a layout::Schedule,
     k: usize,
     from: u64,
 ) -> u64
@@ -143,8 +143,8 @@ fn next_of_file<'a>(
 // The next start or end of a run or of the hold of a task's working memory.
 fn next_of_tasks<'a>(
     shape: Shape,
-    job: &'a [u64; layout::JOB],
-    schedule: &'a [u64; layout::SCHEDULE],
+    job: &'a layout::Numbers,
+    schedule: &'a layout::Schedule,
     from: u64,
 ) -> u64
     requires { InBounds shape job.now schedule.now }
@@ -164,8 +164,8 @@ fn next_of_tasks<'a>(
 // The next start or end of a move or of the hold of a file.
 fn next_of_files<'a>(
     shape: Shape,
-    job: &'a [u64; layout::JOB],
-    schedule: &'a [u64; layout::SCHEDULE],
+    job: &'a layout::Numbers,
+    schedule: &'a layout::Schedule,
     from: u64,
 ) -> u64
     requires { InBounds shape job.now schedule.now }
@@ -185,8 +185,8 @@ fn next_of_files<'a>(
 // The next turn from a tick on, or `NO_TICK`.
 pub fn next_turn<'a>(
     shape: Shape,
-    job: &'a [u64; layout::JOB],
-    schedule: &'a [u64; layout::SCHEDULE],
+    job: &'a layout::Numbers,
+    schedule: &'a layout::Schedule,
     from: u64,
 ) -> u64
     requires { InBounds shape job.now schedule.now }

@@ -24,8 +24,8 @@ pub enum Step {
 // What the next step does from tick `from` on: the next turn, if that is not faulty.
 fn step_from<'a>(
     shape: Shape,
-    job: &'a [u64; layout::JOB],
-    schedule: &'a [u64; layout::SCHEDULE],
+    job: &'a layout::Numbers,
+    schedule: &'a layout::Schedule,
     from: u64,
 ) -> Step
     requires { InBounds shape job.now schedule.now }
@@ -46,8 +46,8 @@ fn step_from<'a>(
 // The answer, with the state after the steps made, the last of them onto tick `time`.
 fn answer_after<'a>(
     shape: Shape,
-    job: &'a [u64; layout::JOB],
-    schedule: &'a [u64; layout::SCHEDULE],
+    job: &'a layout::Numbers,
+    schedule: &'a layout::Schedule,
     progress: Progress,
     made: u64,
     time: u64,
@@ -76,8 +76,8 @@ fn answer_after<'a>(
 // How a walk ends that has made all steps wanted, with the next turn from tick `from` on, if there is one.
 fn progress_at<'a>(
     shape: Shape,
-    job: &'a [u64; layout::JOB],
-    schedule: &'a [u64; layout::SCHEDULE],
+    job: &'a layout::Numbers,
+    schedule: &'a layout::Schedule,
     from: u64,
 ) -> Progress
     requires { InBounds shape job.now schedule.now }
@@ -93,8 +93,8 @@ fn progress_at<'a>(
 // The answer when so many steps are wanted in all.
 pub fn watch<'a>(
     shape: Shape,
-    job: &'a [u64; layout::JOB],
-    schedule: &'a [u64; layout::SCHEDULE],
+    job: &'a layout::Numbers,
+    schedule: &'a layout::Schedule,
     wanted: u64,
 ) -> Simulation
     requires in_bounds { InBounds shape job.now schedule.now }

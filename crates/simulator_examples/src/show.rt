@@ -15,7 +15,7 @@ pub struct Counts {
 
 // Those of a sheet; 0 of a sheet that is refused.
 fn counts_of(sheet: &[u8]) -> Counts {
-    let mut job = [0; layout::JOB];
+    let mut job = layout::Numbers::new();
     match instance::read(sheet, &mut job) {
         InstanceRead::Refused(_, _) => Counts {
             processors: 0,

@@ -15,8 +15,8 @@ use runs::Run;
 // The run of task i.
 pub fn run_of<'a>(
     shape: Shape,
-    job: &'a [u64; layout::JOB],
-    schedule: &'a [u64; layout::SCHEDULE],
+    job: &'a layout::Numbers,
+    schedule: &'a layout::Schedule,
     i: usize,
 ) -> Run
     requires in_bounds { InBounds shape job.now schedule.now }
@@ -33,8 +33,8 @@ pub fn run_of<'a>(
 // The runs of all tasks; past them the array holds no runs.
 fn all_runs<'a>(
     shape: Shape,
-    job: &'a [u64; layout::JOB],
-    schedule: &'a [u64; layout::SCHEDULE],
+    job: &'a layout::Numbers,
+    schedule: &'a layout::Schedule,
 ) -> [Run; Board::MAX_TASKS]
     requires { InBounds shape job.now schedule.now }
     ensures { Records (instance_of shape job.now) (schedule_of shape schedule.now) shape.tasks result }
@@ -55,8 +55,8 @@ fn all_runs<'a>(
 // The lowest task that shares an instant with another run on its processor, or the number of tasks.
 pub fn first_overlapping<'a>(
     shape: Shape,
-    job: &'a [u64; layout::JOB],
-    schedule: &'a [u64; layout::SCHEDULE],
+    job: &'a layout::Numbers,
+    schedule: &'a layout::Schedule,
 ) -> usize
     requires { InBounds shape job.now schedule.now }
     ensures { result ≡

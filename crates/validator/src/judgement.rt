@@ -86,8 +86,8 @@ fn judge_claim(claim: Claim, own: Claim) -> Verdict
 // The verdict from 17 on, of a schedule free of 16.
 fn judge_memory<'a>(
     shape: Shape,
-    job: &'a [u64; layout::JOB],
-    schedule: &'a [u64; layout::SCHEDULE],
+    job: &'a layout::Numbers,
+    schedule: &'a layout::Schedule,
     claim: Claim,
 ) -> Verdict
     requires well_formed { WellFormed (instance_of shape job.now) }
@@ -113,8 +113,8 @@ fn judge_memory<'a>(
 // The verdict from 16 on.
 fn judge_timing<'a>(
     shape: Shape,
-    job: &'a [u64; layout::JOB],
-    schedule: &'a [u64; layout::SCHEDULE],
+    job: &'a layout::Numbers,
+    schedule: &'a layout::Schedule,
     claim: Claim,
 ) -> Verdict
     requires well_formed { WellFormed (instance_of shape job.now) }
@@ -133,8 +133,8 @@ fn judge_timing<'a>(
 // The verdict on a complete schedule and its claim.
 pub fn judge<'a>(
     shape: Shape,
-    job: &'a [u64; layout::JOB],
-    schedule: &'a [u64; layout::SCHEDULE],
+    job: &'a layout::Numbers,
+    schedule: &'a layout::Schedule,
     claim: Claim,
 ) -> Verdict
     requires well_formed { WellFormed (instance_of shape job.now) }

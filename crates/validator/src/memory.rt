@@ -34,8 +34,8 @@ fn sooner(a: Over, b: Over) -> Over
 // The changes of each memory are listed, sorted and walked once.
 pub fn walk_memories<'a>(
     shape: Shape,
-    job: &'a [u64; layout::JOB],
-    schedule: &'a [u64; layout::SCHEDULE],
+    job: &'a layout::Numbers,
+    schedule: &'a layout::Schedule,
 ) -> Memories
     requires { InBounds shape job.now schedule.now }
     ensures { ByChanges (instance_of shape job.now) (schedule_of shape schedule.now)

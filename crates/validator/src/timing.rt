@@ -41,8 +41,8 @@ fn too_early(times: FileTimes) -> bool
 // Whether file k is early.
 fn early_file<'a>(
     shape: Shape,
-    job: &'a [u64; layout::JOB],
-    schedule: &'a [u64; layout::SCHEDULE],
+    job: &'a layout::Numbers,
+    schedule: &'a layout::Schedule,
     k: usize,
 ) -> bool
     requires in_bounds { InBounds shape job.now schedule.now }
@@ -55,8 +55,8 @@ fn early_file<'a>(
 // The lowest task that reads an early file, or the number of tasks.
 pub fn first_early<'a>(
     shape: Shape,
-    job: &'a [u64; layout::JOB],
-    schedule: &'a [u64; layout::SCHEDULE],
+    job: &'a layout::Numbers,
+    schedule: &'a layout::Schedule,
 ) -> u64
     requires { InBounds shape job.now schedule.now }
     ensures { result ≡

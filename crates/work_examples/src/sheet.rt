@@ -7,7 +7,7 @@ use model::layout::Shape;
 use std::io::Result;
 
 // Prints the sheet of an instance.
-fn print_sheet(rt: &impl Print, shape: Shape, job: &[u64; layout::JOB]) -> Result<()>
+fn print_sheet(rt: &impl Print, shape: Shape, job: &layout::Numbers) -> Result<()>
     requires { JobInBounds shape job.now }
 {
     let mut out = io::buffer();
@@ -23,7 +23,7 @@ fn show(rt: &impl Print, sheet: &[u8]) -> Result<()> {
     rt.write_all(b"a sheet:\n")?;
     rt.write_all(sheet)?;
     rt.write_all(b"written back:\n")?;
-    let mut job = [0; layout::JOB];
+    let mut job = layout::Numbers::new();
     let InstanceRead::Accepted(shape) = instance::read(sheet, &mut job) else {
         return Ok(());
     };

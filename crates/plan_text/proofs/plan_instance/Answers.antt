@@ -9,7 +9,7 @@ use Rattle.plan_text.proofs.plan_instance.Goals as goal
 pub run-requires : goal.run-requires
 run-requires c = record {
   well_formed = c.requires;
-  schedule_value = refl;
+  schedule_value = c.new-schedule.ensures;
 }
 
 pub write_plan-requires : goal.write_plan-requires

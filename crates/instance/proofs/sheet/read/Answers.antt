@@ -5,7 +5,7 @@ use Prim.Native.Nat.{ℕ}
 use native.Mathlib.Omega.{arith}
 use lib.ListN.{length-take, length-drop, replicate}
 use Rattle.rules.specs.InstanceText.{with_board}
-use Rattle.model.specs.Layout.{job_length}
+use Rattle.model.specs.Layout.{no_numbers}
 use Rattle.instance.specs.Steps.{RoomIn}
 use Rattle.instance.proofs.ReadLaws.{line-held, told, sheet-long, sheet-unread, sheet-refused, sheet-begun}
 use Rattle.instance.proofs.sheet.read.Goals as goal
@@ -39,14 +39,13 @@ pub returns-in-Refused : goal.returns-in-Refused
 returns-in-Refused c =
     let t = line-held c.next_line-line.ensures c.if-line-eq0.false in
     sheet-refused _ c.if-sheet-gt-MAX_TEXT.false t.first t.short _
-    (told with_board c.line_of.result c.next_line-line.result.now c.first.result _ [] (c.line_of.ensures ∙ t.said) (c.first.ensures.step [])
+    (told with_board c.line_of.result c.next_line-line.result.now c.first.result _ no_numbers (c.line_of.ensures ∙ t.said) (c.first.ensures.step no_numbers)
     c.in-Refused.is)
 
 pub returns-in-Next : goal.returns-in-Next
 returns-in-Next c =
-    let zs = replicate {A = ℕ} job_length 0 in
     let t = line-held c.next_line-line.ensures c.if-line-eq0.false in
     c.rest_of.ensures
     ∙ sheet-begun _ c.if-sheet-gt-MAX_TEXT.false t.first t.short _
-    (told with_board c.line_of.result c.next_line-line.result.now c.first.result _ zs (c.line_of.ensures ∙ t.said) (c.first.ensures.step zs)
+    (told with_board c.line_of.result c.next_line-line.result.now c.first.result _ c.new.result (c.line_of.ensures ∙ t.said) (c.first.ensures.step c.new.result)
     c.in-Next.is)

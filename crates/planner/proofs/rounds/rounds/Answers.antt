@@ -1,9 +1,8 @@
 use Prim.Native.Nat.{ℕ}
 use mathlib.Core.Path.{refl, sym, ap, ◌∙◌}
 use native.Mathlib.Omega.{arith}
-use lib.ListN.{length-replicate}
 use Rattle.model.specs.declared.colour.Colour.TheVariants.{Blue, Red}
-use Rattle.model.specs.Layout.{job_of, schedule_length, last_length}
+use Rattle.model.specs.Layout.{job_of, last_length}
 use Rattle.model.proofs.LayoutLaws.{job-bounds, limit-of}
 use Rattle.rules.specs.Model as Rules
 use Rattle.staircase.specs.Steps.{start_steps}
@@ -22,10 +21,10 @@ loop-placed-init c =
     let W = c.requires.well_formed.0 in
     let x = c.start-blue.ensures in
     let y = c.start-red.ensures in (
-      rw c.requires.schedule_value (length-replicate {A = ℕ} schedule_length 0),
+      rw c.requires.schedule_value (refl, refl),
       refl,
       planning-start (as_planner a.rule) a.shape J W c.requires.well_formed.1 _ _ _
-          (rw c.requires.schedule_value (empty-from a.shape J schedule_length last_length))
+          (rw c.requires.schedule_value (empty-from a.shape J last_length))
           c.requires.needs.0 c.requires.needs.1
           (holds-start W Rules.blue _ _ _ (x.result_after ∙ ap start_steps (sym (limit-of a.shape J Blue))) x.sized)
           (holds-start W Rules.red _ _ _ (y.result_after ∙ ap start_steps (sym (limit-of a.shape J Red))) y.sized),

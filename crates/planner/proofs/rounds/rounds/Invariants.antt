@@ -2,14 +2,14 @@
 use Prim.Native.Nat.{◌-◌}
 use mathlib.Core.Path.{◌≡◌}
 use lib.ListN.{length}
-use Rattle.model.specs.Layout.{job_of, entries_of, schedule_length, last_length}
+use Rattle.model.specs.Layout.{job_of, entries_of, WholeSchedule, last_length}
 use Rattle.planner.specs.Outcomes.{as_planner}
 use Rattle.planner.proofs.RunLaws.{Planning}
 use Rattle.planner.proofs.rounds.rounds.Given as goal
 
 abbrev pub invariant-loop-placed : goal.invariant-loop-placed
 invariant-loop-placed l =
-    (length l.schedule ≡ schedule_length) × (length l.last ≡ last_length)
+    WholeSchedule l.schedule × (length l.last ≡ last_length)
     × Planning (as_planner l.rule) l.shape (job_of l.job) (entries_of l.schedule) l.last l.needs l.blue_ticks l.blue_free l.red_ticks l.red_free l.n l.placed l.trials
 
 abbrev pub decreases-loop-placed : goal.decreases-loop-placed

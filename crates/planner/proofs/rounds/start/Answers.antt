@@ -1,7 +1,7 @@
 -- `start` meets its contract: the chains, HEFT's list and the table are made, and the rounds do the rest.
 use Prim.Native.Nat.{ℕ}
 use lib.ListN.{replicate}
-use Rattle.model.specs.Layout.{job_of, entries_of, schedule_length, last_length}
+use Rattle.model.specs.Layout.{job_of, entries_of, last_length}
 use Rattle.model.proofs.LayoutLaws.{job-bounds}
 use Rattle.needs.proofs.NeedsLaws.{zeros-bounds}
 use Rattle.placement.proofs.PlaceLaws.{empty-from}
@@ -25,7 +25,7 @@ start-requires c =
     let a = c.args in
     let J = job_of a.job.now in record {
       in_bounds = empty-bounds a.shape J c.requires.well_formed.0 (entries_of a.schedule.now) (replicate {A = ℕ} last_length 0)
-          (rw c.requires.schedule_value (empty-from a.shape J schedule_length last_length));
+          (rw c.requires.schedule_value (empty-from a.shape J last_length));
       chained = c.link.ensures.chained;
       chained_2 = c.link-2.ensures.chained;
       needs_bounds = zeros-bounds;
