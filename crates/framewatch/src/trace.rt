@@ -90,12 +90,7 @@ fn print_end(rt: &impl Print, progress: Progress, made: u64) -> Result<()> {
 }
 
 // A blank line and a step. Fails where that cannot be written.
-fn print_step(
-    rt: &impl Print,
-    shape: Shape,
-    job: &layout::Numbers,
-    state: Simulation,
-) -> Result<()>
+fn print_step(rt: &impl Print, shape: Shape, job: &layout::Numbers, state: Simulation) -> Result<()>
     requires { JobInBounds shape job.now }
 {
     step::show(rt, Line::new().end(rt), shape, job, state).ok
