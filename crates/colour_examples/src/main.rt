@@ -3,7 +3,7 @@
 #![tactic(auto)]
 
 use console::{Planner, print_answer, print_number, print_verdict};
-use model::colour::{Colour, move_time_between, newly_held};
+use model::colour::{Colour, cost_between};
 use std::io::Result;
 
 // A space and a colour.
@@ -19,8 +19,8 @@ fn print_case(rt: &impl Print, maker: Colour, reader: Colour) -> Result<()> {
     rt.write_all(b"(case")?;
     print_colour(rt, maker)?;
     print_colour(rt, reader)?;
-    print_number(rt, move_time_between(maker, reader, 5))?;
-    print_number(rt, newly_held(maker, reader, 3))?;
+    print_number(rt, cost_between(maker, reader, 5))?;
+    print_number(rt, cost_between(maker, reader, 3))?;
     rt.write_all(b")\n")
 }
 

@@ -1,14 +1,13 @@
 -- What the arrays say after a write: the numbers written, and every other number as it was.
-use Prim.Native.Nat.{ℕ, suc, ◌+◌, ◌*◌, ◌≤◌, ◌<◌}
-use mathlib.Core.Path.{◌≡◌, refl, ap, ap₂, ◌∙◌}
+use Prim.Native.Nat.{ℕ, suc, ◌+◌, ◌<◌}
+use mathlib.Core.Path.{◌≡◌, ap, ap₂}
 use mathlib.Core.Logic.{◌≢◌}
 use mathlib.Core.List.{List, [], ◌∷◌, ◌++◌}
 use native.Mathlib.Omega.{arith}
 use native.Mathlib.Numerals.{add-one}
-use lib.ListN.{length, get_or, set, length-set}
+use lib.ListN.{length}
 use lib.Seq.{get_or-set_same, get_or-set_other}
 use Rattle.rules.specs.Count.{list_below}
-use Rattle.rules.specs.Limits.{max_tasks, max_files}
 use Rattle.rules.specs.Model.{Instance, Task, File}
 use Rattle.rules.specs.BoardType.{side_from}
 use Rattle.rules.specs.InstanceText.{with_task, with_file}

@@ -1,63 +1,23 @@
-// The two colours, and what a file costs between them, by the four cases of its maker and its reader.
+// The two colours, and what a file costs between them.
 ghost use Rattle.std.specs.Prelude.{◌≡◌, ◌≤◌, max, min};
-ghost use Rattle.rules.specs.Model.{same_colour, move_time_between, newly_held};
+ghost use Rattle.rules.specs.Model.{move_time_between, newly_held};
 ghost use Rattle.model.specs.Colours.{as_colour, by_colour};
 
 // The two kinds of processor, each with its memory.
-#[derive(Clone, Copy)]
+#[derive(Clone, Copy, PartialEq, Eq)]
 pub enum Colour {
     Blue,
     Red,
 }
 
-// Document 001's actual move time of a file whose move time is C, here `time`: 0 within a colour, C across.
-pub fn move_time_between(maker: Colour, reader: Colour, time: u64) -> u64
-    ensures value { result ≡ move_time_between (as_colour maker) (as_colour reader) time }
-    ensures upper_bound { result ≤ time }
+// What a file costs a reader, of its move time C or its size F, here `amount`: 0 within a colour, whose memory holds it already, and all
+// of it across. Of C it is document 001's actual move time, of F what the reader's colour must newly hold.
+pub fn cost_between(maker: Colour, reader: Colour, amount: u64) -> u64
+    ensures move_time { result ≡ move_time_between (as_colour maker) (as_colour reader) amount }
+    ensures newly_held { result ≡ newly_held (as_colour maker) (as_colour reader) amount }
+    ensures upper_bound { result ≤ amount }
 {
-    match maker {
-        Colour::Blue => match reader {
-            Colour::Blue => 0,
-            Colour::Red => time,
-        },
-        Colour::Red => match reader {
-            Colour::Red => 0,
-            Colour::Blue => time,
-        },
-    }
-}
-
-// What the reader's colour must newly hold of a file of size F, here `size`: 0 within a colour, whose memory holds it already, F across.
-pub fn newly_held(maker: Colour, reader: Colour, size: u64) -> u64
-    ensures value { result ≡ newly_held (as_colour maker) (as_colour reader) size }
-    ensures upper_bound { result ≤ size }
-{
-    match maker {
-        Colour::Blue => match reader {
-            Colour::Blue => 0,
-            Colour::Red => size,
-        },
-        Colour::Red => match reader {
-            Colour::Red => 0,
-            Colour::Blue => size,
-        },
-    }
-}
-
-// Whether two colours are the same.
-pub fn same_colour(a: Colour, b: Colour) -> bool
-    ensures { result ≡ same_colour (as_colour a) (as_colour b) }
-{
-    match a {
-        Colour::Blue => match b {
-            Colour::Blue => true,
-            Colour::Red => false,
-        },
-        Colour::Red => match b {
-            Colour::Red => true,
-            Colour::Blue => false,
-        },
-    }
+    if maker == reader { 0 } else { amount }
 }
 
 // The colour's own of two numbers.

@@ -1,38 +1,88 @@
-// Which files move, and what a file costs a task that reads it: all of it by the four cases of `colour`.
+// Which files move, and what a file costs a task that reads it, by the colours that a schedule gives. The schedule may be partial, and its
+// ticks in no range.
 ghost use Rattle.std.specs.Prelude.{◌≡◌, ◌<◌, ◌≤◌};
 ghost use Rattle.rules.specs.Limits.{move_times, file_sizes};
-ghost use Rattle.rules.specs.Model.{moved, actual_move_time};
+ghost use Rattle.rules.specs.Model.{moved};
 ghost use Rattle.model.specs.Colours.{as_colour};
 ghost use Rattle.model.specs.Costs.{CostOf};
 ghost use Rattle.model.specs.Layout.{instance_of, schedule_of, JobInBounds};
 
-use super::choice::value_if;
-use super::colour::{Colour, move_time_between, newly_held};
+use super::colour::{Colour, cost_between};
+use super::job::Job;
 use super::layout;
 use super::layout::Shape;
 
-// The actual move time of file k, by the colours of its two tasks.
-pub fn actual_move_time<'a>(
-    shape: Shape,
-    job: &'a layout::Numbers,
-    schedule: &'a layout::Schedule,
-    k: usize,
-) -> u64
-    requires job_in_bounds { JobInBounds shape job.now }
-    requires k_lt_files { k < shape.files }
-    ensures value { result ≡ actual_move_time (instance_of shape job.now) (schedule_of shape schedule.now) k }
-    ensures upper_bound { result ≤ move_times.most }
-{
-    let m = layout::maker(shape, job, k) as usize;
-    let d = layout::reader(shape, job, k) as usize;
-    move_time_between(
-        layout::colour_of(shape, schedule, m),
-        layout::colour_of(shape, schedule, d),
-        layout::move_time(job, k),
-    )
+// What a file costs a task: its actual move time, and what the task's colour must newly hold of it.
+#[derive(Clone, Copy)]
+pub struct Cost {
+    pub move_time: u64,
+    pub newly_held: u64,
 }
 
-// Whether file k moves: whether its move takes time, since no move time is 0. The runs alone say so: no move start is read.
+impl Job<'_> {
+    ghost use Rattle.std.specs.Prelude.{◌≡◌, ◌<◌, ◌≤◌};
+    ghost use Rattle.rules.specs.Limits.{move_times, file_sizes};
+    ghost use Rattle.rules.specs.Model.{run_at, colour_of, moved, actual_move_time};
+    ghost use Rattle.model.specs.Colours.{as_colour};
+    ghost use Rattle.model.specs.Costs.{CostOf};
+    ghost use Rattle.model.specs.Layout.{schedule_of};
+    ghost use Rattle.model.specs.Jobs.{instance_in};
+
+    // The colour that task i runs on.
+    pub fn colour_of(&self, schedule: &layout::Schedule, i: usize) -> Colour
+        requires { i < self.now.shape.tasks }
+        ensures { as_colour result ≡ colour_of (instance_in self.now) (run_at (schedule_of self.now.shape schedule.now) i) }
+    {
+        layout::colour_of(self.shape, schedule, i)
+    }
+
+    // The actual move time of file k, by the colours of its two tasks.
+    pub fn actual_move_time(&self, schedule: &layout::Schedule, k: usize) -> u64
+        requires { k < self.now.shape.files }
+        ensures value { result ≡ actual_move_time (instance_in self.now) (schedule_of self.now.shape schedule.now) k }
+        ensures upper_bound { result ≤ move_times.most }
+    {
+        cost_between(
+            self.colour_of(schedule, self.maker(k)),
+            self.colour_of(schedule, self.reader(k)),
+            self.move_time(k),
+        )
+    }
+
+    // Whether file k moves: whether its two tasks are of different colours. The runs alone say so: no move start is read.
+    pub fn moves(&self, schedule: &layout::Schedule, k: usize) -> bool
+        requires { k < self.now.shape.files }
+        ensures { result ≡ moved (instance_in self.now) (schedule_of self.now.shape schedule.now) k }
+    {
+        self.colour_of(schedule, self.maker(k)) != self.colour_of(schedule, self.reader(k))
+    }
+
+    // What file k costs the task on the colour: nothing if the task does not read it.
+    pub fn cost_for(
+        &self,
+        schedule: &layout::Schedule,
+        k: usize,
+        task: usize,
+        colour: Colour,
+    ) -> Cost
+        requires { k < self.now.shape.files }
+        ensures cost_of { CostOf (instance_in self.now) (schedule_of self.now.shape schedule.now) task (as_colour colour) k result }
+        ensures move_time_bound { (result.move_time ≤ move_times.most) × (result.newly_held ≤ file_sizes.most) }
+    {
+        if self.reader(k) != task {
+            return Cost {
+                move_time: 0,
+                newly_held: 0,
+            };
+        }
+        let from = self.colour_of(schedule, self.maker(k));
+        Cost {
+            move_time: cost_between(from, colour, self.move_time(k)),
+            newly_held: cost_between(from, colour, self.size(k)),
+        }
+    }
+}
+
 pub fn moves<'a>(
     shape: Shape,
     job: &'a layout::Numbers,
@@ -43,17 +93,13 @@ pub fn moves<'a>(
     requires k_lt_files { k < shape.files }
     ensures { result ≡ moved (instance_of shape job.now) (schedule_of shape schedule.now) k }
 {
-    0 < actual_move_time(shape, job, schedule, k)
+    let whole = Job {
+        shape,
+        numbers: job,
+    };
+    whole.moves(schedule, k)
 }
 
-// What a file costs a task: its actual move time, and what the task's colour must newly hold of it.
-#[derive(Clone, Copy)]
-pub struct Cost {
-    pub move_time: u64,
-    pub newly_held: u64,
-}
-
-// What file k costs the task on the colour: nothing if the task does not read it.
 pub fn cost_for<'a>(
     shape: Shape,
     job: &'a layout::Numbers,
@@ -67,13 +113,9 @@ pub fn cost_for<'a>(
     ensures cost_of { CostOf (instance_of shape job.now) (schedule_of shape schedule.now) task (as_colour colour) k result }
     ensures move_time_bound { (result.move_time ≤ move_times.most) × (result.newly_held ≤ file_sizes.most) }
 {
-    let m = layout::maker(shape, job, k) as usize;
-    let reads = layout::reader(shape, job, k) == task;
-    let from = layout::colour_of(shape, schedule, m);
-    let time = move_time_between(from, colour, layout::move_time(job, k));
-    let size = newly_held(from, colour, layout::size(job, k));
-    Cost {
-        move_time: value_if(reads, time),
-        newly_held: value_if(reads, size),
-    }
+    let whole = Job {
+        shape,
+        numbers: job,
+    };
+    whole.cost_for(schedule, k, task as usize, colour)
 }

@@ -1,27 +1,31 @@
 // When a memory holds a file, or a task's working memory: document 01's hold rule with Orders 1 and 6, for partial schedules too.
-ghost use Rattle.std.specs.Prelude.{◌≡◌, ◌<◌, ◌≤◌, max};
-ghost use Rattle.rules.specs.Model.{finish_at, release_at};
-ghost use Rattle.rules.specs.Residency.{covers as rules-covers, open_hold, closed_hold, hold_of, work_of};
+ghost use Rattle.std.specs.Prelude.{◌≡◌, ◌<◌, ◌≤◌, ℕ};
+ghost use Rattle.rules.specs.Model.{finish_at};
+ghost use Rattle.rules.specs.Residency.{covers as rules-covers, open_hold, hold_of, work_of};
 ghost use Rattle.model.specs.Colours.{as_colour};
 ghost use Rattle.model.specs.Layout.{instance_of, schedule_of, InBounds, last_tick};
-ghost use Rattle.model.specs.Holds.{TimesOf, TimesWithin, as_hold, Within};
+ghost use Rattle.model.specs.Holds.{as_hold, Within, closed_by, TimesOf, TimesWithin};
 
-use super::choice::greater;
-use super::colour::{Colour, same_colour};
-use super::crossing::actual_move_time;
+use super::colour::Colour;
+use super::job::Job;
 use super::layout;
 use super::layout::Shape;
+use super::timetable::Timetable;
 
-// What the two runs of a file imply: whether it moves, and its times. `begun` and `made` are its maker's start and finish,
-// `departs` and `arrives` the start and the end of its move, the end by its actual move time; they mean nothing for a file that
-// does not move. Its reader `starts`, and keeps it until `released`.
+// The move of a file: its start and its end.
 #[derive(Clone, Copy)]
-pub struct FileTimes {
-    pub moves: bool,
-    pub begun: u64,
-    pub made: u64,
+pub struct Transfer {
     pub departs: u64,
     pub arrives: u64,
+}
+
+// The times that the two runs of a file imply: its maker's start and finish, its move if it moves, the start of its reader, and until when
+// that keeps it.
+#[derive(Clone, Copy)]
+pub struct FileTimes {
+    pub begun: u64,
+    pub made: u64,
+    pub transfer: Option<Transfer>,
     pub starts: u64,
     pub released: u64,
 }
@@ -34,18 +38,146 @@ pub enum Hold {
     Since(u64),
 }
 
-// Whether the hold covers tick t.
-pub fn covers(h: Hold, t: u64) -> bool
-    ensures { result ≡ rules-covers (as_hold h) t }
-{
-    match h {
-        Hold::Never => false,
-        Hold::During(from, end) => { if from <= t { t < end } else { false } }
-        Hold::Since(from) => from <= t,
+impl Hold {
+    // Whether the hold covers tick t.
+    pub fn covers(self, t: u64) -> bool
+        ensures { result ≡ rules-covers (as_hold self) t }
+    {
+        match self {
+            Hold::Never => false,
+            Hold::During(from, end) => from <= t && t < end,
+            Hold::Since(from) => from <= t,
+        }
     }
 }
 
-// The finish of task i's run.
+// The hold of a file whose reader is not placed, in the memory of its maker's colour (`here`) or of the other.
+fn open_hold(here: bool, begun: u64) -> Hold
+    ensures result_value { as_hold result ≡ open_hold here begun }
+    ensures within { Within begun result }
+{
+    if here {
+        Hold::Since(begun)
+    } else {
+        Hold::Never
+    }
+}
+
+// The hold of a file with both its tasks placed, by its times.
+fn closed_hold(here: bool, times: FileTimes) -> Hold
+    ensures result_value { as_hold result ≡ closed_by times here }
+    ensures within { (b : ℕ) → TimesWithin b times → Within b result }
+{
+    match (times.transfer, here) {
+        (Some(transfer), true) => Hold::During(times.begun, transfer.arrives),
+        (Some(transfer), false) => Hold::During(transfer.departs, times.released),
+        (None, true) => Hold::During(times.begun, times.released),
+        (None, false) => Hold::Never,
+    }
+}
+
+impl Timetable<'_> {
+    ghost use Rattle.std.specs.Prelude.{◌≡◌, ◌<◌, ◌≤◌, ◌&&◌};
+    ghost use Rattle.rules.specs.Model.{run_at, is_placed, same_colour, colour_of, finish_at, release_at};
+    ghost use Rattle.rules.specs.Residency.{hold_of, work_of};
+    ghost use Rattle.model.specs.Colours.{as_colour};
+    ghost use Rattle.model.specs.Layout.{last_tick};
+    ghost use Rattle.model.specs.Jobs.{instance_in, schedule_in};
+    ghost use Rattle.model.specs.Holds.{TransferOf, TransferWithin, TimesOf, TimesWithin, as_hold, Within};
+
+    // The finish of task i's run.
+    pub fn finish(&self, i: usize) -> u64
+        requires { i < self.now.job.shape.tasks }
+        ensures value { result ≡ finish_at (instance_in self.now.job) (schedule_in self.now) i }
+        ensures upper_bound { result ≤ last_tick }
+    {
+        self.start(i) + self.job.run_time(i, self.colour_of(i))
+    }
+
+    // Until when task i's run keeps the files that it reads and its working memory: its finish, but the tick after its start if it takes no
+    // time. The one place of the code that says so.
+    pub fn release(&self, i: usize) -> u64
+        requires { i < self.now.job.shape.tasks }
+        ensures value { result ≡ release_at (instance_in self.now.job) (schedule_in self.now) i }
+        ensures upper_bound { result ≤ last_tick }
+    {
+        self.finish(i).max(self.start(i) + 1)
+    }
+
+    // The move of file k, if it moves: from its move start, for its move time.
+    fn transfer_of(&self, k: usize) -> Option<Transfer>
+        requires { k < self.now.job.shape.files }
+        ensures transfer_of { TransferOf (instance_in self.now.job) (schedule_in self.now) k result }
+        ensures within { TransferWithin last_tick result }
+    {
+        if !self.job.moves(self.schedule, k) {
+            return None;
+        }
+        let departs = self.move_start(k);
+        Some(Transfer {
+            departs,
+            arrives: departs + self.job.move_time(k),
+        })
+    }
+
+    // What the two runs of file k imply.
+    pub fn file_times(&self, k: usize) -> FileTimes
+        requires { k < self.now.job.shape.files }
+        ensures times_of { TimesOf (instance_in self.now.job) (schedule_in self.now) k result }
+        ensures times_within { TimesWithin last_tick result }
+    {
+        let maker = self.job.maker(k);
+        let reader = self.job.reader(k);
+        FileTimes {
+            begun: self.start(maker),
+            made: self.finish(maker),
+            transfer: self.transfer_of(k),
+            starts: self.start(reader),
+            released: self.release(reader),
+        }
+    }
+
+    // The hold of file k in the memory of the colour.
+    pub fn hold_of(&self, k: usize, colour: Colour) -> Hold
+        requires { k < self.now.job.shape.files }
+        ensures result_value { as_hold result ≡ hold_of (instance_in self.now.job) (schedule_in self.now) (as_colour colour) k }
+        ensures within { Within last_tick result }
+    {
+        let maker = self.job.maker(k);
+        if !self.is_placed(maker) {
+            return Hold::Never;
+        }
+        let here = self.colour_of(maker) == colour;
+        if self.is_placed(self.job.reader(k)) {
+            return closed_hold(here, self.file_times(k));
+        }
+        open_hold(here, self.start(maker))
+    }
+
+    // Whether task i is placed on a processor of the colour.
+    fn runs_on(&self, i: usize, colour: Colour) -> bool
+        requires { i < self.now.job.shape.tasks }
+        ensures { result ≡
+            is_placed (run_at (schedule_in self.now) i) && same_colour (colour_of (instance_in self.now.job) (run_at (schedule_in self.now) i)) (as_colour colour) }
+    {
+        self.is_placed(i) && self.colour_of(i) == colour
+    }
+
+    // The hold of task i's working memory in the memory of the colour: the run's own, from its start until its release.
+    pub fn work_hold(&self, i: usize, colour: Colour) -> Hold
+        requires { i < self.now.job.shape.tasks }
+        ensures result_value { as_hold result ≡ work_of (instance_in self.now.job) (schedule_in self.now) (as_colour colour) i }
+        ensures within { Within last_tick result }
+    {
+        if self.job.work(i) == 0 || !self.runs_on(i, colour) {
+            return Hold::Never;
+        }
+        let begun = self.start(i);
+        let released = self.release(i);
+        Hold::During(begun, released)
+    }
+}
+
 pub fn finish<'a>(
     shape: Shape,
     job: &'a layout::Numbers,
@@ -57,30 +189,16 @@ pub fn finish<'a>(
     ensures value { result ≡ finish_at (instance_of shape job.now) (schedule_of shape schedule.now) i }
     ensures upper_bound { result ≤ last_tick }
 {
-    let time = layout::run_time(job, i, layout::colour_of(shape, schedule, i));
-    layout::start(schedule, i) + time
+    let whole = Timetable {
+        job: Job {
+            shape,
+            numbers: job,
+        },
+        schedule,
+    };
+    whole.finish(i)
 }
 
-// Until when task i's run keeps the files that it reads and its working memory: its finish, but the tick after its start if it takes no time. The one
-// place of the code that says so.
-pub fn release<'a>(
-    shape: Shape,
-    job: &'a layout::Numbers,
-    schedule: &'a layout::Schedule,
-    i: usize,
-) -> u64
-    requires in_bounds { InBounds shape job.now schedule.now }
-    requires i_lt_tasks { i < shape.tasks }
-    ensures value { result ≡ release_at (instance_of shape job.now) (schedule_of shape schedule.now) i }
-    ensures upper_bound { result ≤ last_tick }
-{
-    greater(
-        finish(shape, job, schedule, i),
-        layout::start(schedule, i) + 1,
-    )
-}
-
-// What the two runs of file k imply.
 pub fn file_times<'a>(
     shape: Shape,
     job: &'a layout::Numbers,
@@ -92,51 +210,16 @@ pub fn file_times<'a>(
     ensures times_of { TimesOf (instance_of shape job.now) (schedule_of shape schedule.now) k result }
     ensures times_within { TimesWithin last_tick result }
 {
-    let m = layout::maker(shape, job, k) as usize;
-    let d = layout::reader(shape, job, k) as usize;
-    let takes = actual_move_time(shape, job, schedule, k);
-    let departs = layout::move_start(schedule, k);
-    let arrives = departs + takes;
-    FileTimes {
-        moves: 0 < takes,
-        begun: layout::start(schedule, m),
-        made: finish(shape, job, schedule, m),
-        departs,
-        arrives,
-        starts: layout::start(schedule, d),
-        released: release(shape, job, schedule, d),
-    }
+    let whole = Timetable {
+        job: Job {
+            shape,
+            numbers: job,
+        },
+        schedule,
+    };
+    whole.file_times(k)
 }
 
-// The hold of a file whose reader is not placed, in the memory of its maker's colour (`here`) or of the other.
-fn open_hold(here: bool, begun: u64) -> Hold
-    ensures result_value { as_hold result ≡ open_hold here begun }
-    ensures within { Within begun result }
-{
-    if here {
-        return Hold::Since(begun);
-    }
-    Hold::Never
-}
-
-// The hold of a file with both its tasks placed, by its times.
-fn closed_hold(here: bool, times: FileTimes) -> Hold
-    ensures result_value { as_hold result ≡ closed_hold times.moves here times.begun times.departs times.arrives times.released }
-    ensures within { Within (max (max times.begun times.departs) (max times.arrives times.released)) result }
-{
-    if here {
-        if times.moves {
-            return Hold::During(times.begun, times.arrives);
-        }
-        return Hold::During(times.begun, times.released);
-    }
-    if times.moves {
-        return Hold::During(times.departs, times.released);
-    }
-    Hold::Never
-}
-
-// The hold of file k in the memory of the colour.
 pub fn hold_of<'a>(
     shape: Shape,
     job: &'a layout::Numbers,
@@ -150,19 +233,16 @@ pub fn hold_of<'a>(
         hold_of (instance_of shape job.now) (schedule_of shape schedule.now) (as_colour colour) k }
     ensures within { Within last_tick result }
 {
-    let m = layout::maker(shape, job, k) as usize;
-    let d = layout::reader(shape, job, k) as usize;
-    if 0 < layout::processor(schedule, m) {
-        let here = same_colour(layout::colour_of(shape, schedule, m), colour);
-        if 0 < layout::processor(schedule, d) {
-            return closed_hold(here, file_times(shape, job, schedule, k));
-        }
-        return open_hold(here, layout::start(schedule, m));
-    }
-    Hold::Never
+    let whole = Timetable {
+        job: Job {
+            shape,
+            numbers: job,
+        },
+        schedule,
+    };
+    whole.hold_of(k, colour)
 }
 
-// The hold of task i's working memory in the memory of the colour: the run's own, from its start until its release.
 pub fn work_hold<'a>(
     shape: Shape,
     job: &'a layout::Numbers,
@@ -176,16 +256,18 @@ pub fn work_hold<'a>(
         work_of (instance_of shape job.now) (schedule_of shape schedule.now) (as_colour colour) i }
     ensures within { Within last_tick result }
 {
-    if layout::work(job, i) == 0 {
-        return Hold::Never;
-    }
-    if layout::processor(schedule, i) == 0 {
-        return Hold::Never;
-    }
-    if !same_colour(layout::colour_of(shape, schedule, i), colour) {
-        return Hold::Never;
-    }
-    let begun = layout::start(schedule, i);
-    let released = release(shape, job, schedule, i);
-    Hold::During(begun, released)
+    let whole = Timetable {
+        job: Job {
+            shape,
+            numbers: job,
+        },
+        schedule,
+    };
+    whole.work_hold(i, colour)
+}
+
+pub fn covers(h: Hold, t: u64) -> bool
+    ensures { result ≡ rules-covers (as_hold h) t }
+{
+    h.covers(t)
 }

@@ -59,6 +59,6 @@ impl Timetable<'_> {
         requires { i < self.now.job.shape.tasks }
         ensures { as_colour result ≡ colour_of (instance_in self.now.job) (run_at (schedule_in self.now) i) }
     {
-        layout::colour_of(self.job.shape, self.schedule, i)
+        self.job.colour_of(self.schedule, i)
     }
 }

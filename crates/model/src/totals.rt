@@ -1,62 +1,59 @@
 // How much a memory holds: the sums of the holds of residency.rt.
 ghost use Rattle.std.specs.Prelude.{◌≡◌, ◌≤◌};
-ghost use Rattle.rules.specs.Residency.{files_held, work_held, held};
+ghost use Rattle.rules.specs.Residency.{held};
 ghost use Rattle.model.specs.Colours.{as_colour};
-ghost use Rattle.model.specs.Layout.{instance_of, schedule_of, InBounds, most_files, most_work, most_held};
+ghost use Rattle.model.specs.Layout.{instance_of, schedule_of, InBounds, most_held};
 
-use super::choice::value_if;
 use super::colour::Colour;
+use super::job::Job;
 use super::layout;
 use super::layout::Shape;
-use super::residency::{covers, hold_of, work_hold};
+use super::timetable::Timetable;
 
-// The sizes of the files held in the memory of the colour at tick t.
-fn files_held<'a>(
-    shape: Shape,
-    job: &'a layout::Numbers,
-    schedule: &'a layout::Schedule,
-    colour: Colour,
-    t: u64,
-) -> u64
-    requires { InBounds shape job.now schedule.now }
-    ensures value { result ≡
-        files_held (instance_of shape job.now) (schedule_of shape schedule.now) (as_colour colour) t }
-    ensures upper_bound { result ≤ most_files }
-{
-    let mut sum: u64 = 0;
-    let mut i: usize = 0;
-    while i < shape.files {
-        let h = hold_of(shape, job, schedule, i, colour);
-        sum += value_if(covers(h, t), layout::size(job, i));
-        i += 1;
+impl Timetable<'_> {
+    ghost use Rattle.std.specs.Prelude.{◌≡◌, ◌≤◌};
+    ghost use Rattle.rules.specs.Residency.{files_held, work_held, held};
+    ghost use Rattle.model.specs.Colours.{as_colour};
+    ghost use Rattle.model.specs.Layout.{most_files, most_work, most_held};
+    ghost use Rattle.model.specs.Jobs.{instance_in, schedule_in};
+
+    // The sizes of the files held in the memory of the colour at tick t.
+    fn files_held(&self, colour: Colour, t: u64) -> u64
+        ensures value { result ≡ files_held (instance_in self.now.job) (schedule_in self.now) (as_colour colour) t }
+        ensures upper_bound { result ≤ most_files }
+    {
+        let mut sum = 0;
+        for k in 0..self.job.shape.files {
+            if self.hold_of(k, colour).covers(t) {
+                sum += self.job.size(k);
+            }
+        }
+        sum
     }
-    sum
+
+    // The working memory held in the memory of the colour at tick t.
+    fn work_held(&self, colour: Colour, t: u64) -> u64
+        ensures value { result ≡ work_held (instance_in self.now.job) (schedule_in self.now) (as_colour colour) t }
+        ensures upper_bound { result ≤ most_work }
+    {
+        let mut sum = 0;
+        for i in 0..self.job.shape.tasks {
+            if self.work_hold(i, colour).covers(t) {
+                sum += self.job.work(i);
+            }
+        }
+        sum
+    }
+
+    // The total held in the memory of the colour at tick t.
+    pub fn held_at(&self, colour: Colour, t: u64) -> u64
+        ensures value { result ≡ held (instance_in self.now.job) (schedule_in self.now) (as_colour colour) t }
+        ensures upper_bound { result ≤ most_held }
+    {
+        self.files_held(colour, t) + self.work_held(colour, t)
+    }
 }
 
-// The working memory held in the memory of the colour at tick t.
-fn work_held<'a>(
-    shape: Shape,
-    job: &'a layout::Numbers,
-    schedule: &'a layout::Schedule,
-    colour: Colour,
-    t: u64,
-) -> u64
-    requires { InBounds shape job.now schedule.now }
-    ensures value { result ≡
-        work_held (instance_of shape job.now) (schedule_of shape schedule.now) (as_colour colour) t }
-    ensures upper_bound { result ≤ most_work }
-{
-    let mut sum: u64 = 0;
-    let mut i: usize = 0;
-    while i < shape.tasks {
-        let h = work_hold(shape, job, schedule, i, colour);
-        sum += value_if(covers(h, t), layout::work(job, i));
-        i += 1;
-    }
-    sum
-}
-
-// The total held in the memory of the colour at tick t.
 pub fn held_at<'a>(
     shape: Shape,
     job: &'a layout::Numbers,
@@ -69,5 +66,12 @@ pub fn held_at<'a>(
         held (instance_of shape job.now) (schedule_of shape schedule.now) (as_colour colour) t }
     ensures upper_bound { result ≤ most_held }
 {
-    files_held(shape, job, schedule, colour, t) + work_held(shape, job, schedule, colour, t)
+    let whole = Timetable {
+        job: Job {
+            shape,
+            numbers: job,
+        },
+        schedule,
+    };
+    whole.held_at(colour, t)
 }

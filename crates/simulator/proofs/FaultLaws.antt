@@ -8,11 +8,11 @@ use native.Mathlib.Decide.{dec_le}
 use lib.Dec.{leb, ltb, eqb}
 use borrow.Author.Tests.{leb-true, le-leb, lt-leb, le-ltb, eqb-true, eq-eqb, ne_eqb}
 use Rattle.rules.specs.Count.{any_below}
-use Rattle.rules.specs.Model.{blue, red, Instance, limit_of, task_count, file_count, Schedule, run_at, start_at, finish_at, moved}
+use Rattle.rules.specs.Model.{blue, red, Instance, limit_of, task_count, file_count, Schedule, run_at, start_at, finish_at, made_at}
 use Rattle.rules.specs.Residency.{held}
 use Rattle.rules.specs.Validity.{overlap, over}
-use Rattle.rules.specs.Simulation.{shares_from, task_shares, shares_at, file_early, early_at, fault_at}
-use Rattle.rules.proofs.Tests.{split, same_test, and-true, and-swap, eqb-sym}
+use Rattle.rules.specs.Simulation.{shares_from, task_shares, shares_at, read_at, file_early, early_at, fault_at}
+use Rattle.rules.proofs.Tests.{same_test, and-true, and-swap, eqb-sym}
 use Rattle.rules.proofs.CountLaws.{any_some, any_found}
 use Rattle.rules.proofs.ValidLaws.{more-over}
 use Rattle.runs.specs.Scan.{overlapping}
@@ -20,13 +20,15 @@ use Rattle.runs.specs.declared.Run.{Run}
 use Rattle.model.specs.declared.layout.Shape.{Shape}
 use Rattle.model.specs.declared.colour.Colour.TheVariants.{Blue, Red}
 use Rattle.model.specs.declared.residency.FileTimes.{FileTimes}
-use Rattle.model.specs.Holds.{TimesOf}
+use Rattle.model.specs.declared.residency.Transfer.{Transfer}
+use Rattle.model.specs.Holds.{TransferOf, TimesOf}
 use Rattle.model.specs.Layout.{Job, Entries, Bounds, instance_from, schedule_from}
-use Rattle.model.proofs.FileLaws.{arrives-moved}
+use Rattle.std.specs.Prelude.{Option, Some, None}
+use Rattle.validator.specs.Early.{arrival}
 use Rattle.model.proofs.LayoutLaws.{task-count, file-count, start-at, limit-of}
 use Rattle.validator.specs.Records.{record_at}
 use Rattle.validator.proofs.OverlapLaws.{overlap-self, overlap-records}
-use Rattle.simulator.specs.Faults.{begun_overlaps, overlaps_begun, starts_overlapping, early_by}
+use Rattle.simulator.specs.Faults.{begun_overlaps, overlaps_begun, starts_overlapping, departs_early, early_by}
 use Rattle.simulator.proofs.AnyLaws.{any-yes, any-over}
 
 -- ---- 15
@@ -86,12 +88,13 @@ module _ (I : Instance) (P : Schedule) where
     unfolding early_at
     early-is = refl
 
+    early-by : (k : ℕ) (o : Option Transfer) → TransferOf I P k o
+        → departs_early o (made_at I P k) t || ltb (read_at I P k) (arrival o (made_at I P k)) && eqb (read_at I P k) t ≡ file_early I P t k
+    early-by k (Some m) move = rw (move.moves, move.departs, move.arrives)
+    early-by k None stays = rw stays
+
     pub early-times : (k : ℕ) (x : FileTimes) → TimesOf I P k x → early_by x t ≡ file_early I P t k
-    early-times k x times = split x.moves
-        (λ e. let m : moved I P k ≡ true = sym times.moves ∙ e in
-        rw (e, m, times.departs, times.made, times.starts, arrives-moved I P k x times e))
-        (λ e. let m : moved I P k ≡ false = sym times.moves ∙ e in
-        rw (e, m, times.made, times.starts))
+    early-times k x times = rw (times.made, times.starts) (early-by k x.transfer times.transfer)
 
     -- ---- the fault, in their order
 

@@ -11,12 +11,11 @@ use Rattle.rules.specs.Residency as Rules
 use Rattle.rules.specs.Residency.{hold_of, work_of}
 use Rattle.rules.specs.Simulation.{turns, run_turns, task_turns, move_turns, file_turns, is_turn}
 use Rattle.model.specs.declared.layout.Shape.{Shape}
-use Rattle.model.specs.declared.residency.FileTimes.{FileTimes}
+use Rattle.model.specs.declared.residency.Transfer.{Transfer}
 use Rattle.model.specs.declared.residency.Hold.{Hold}
 use Rattle.model.specs.declared.residency.Hold.TheVariants.{Never, During, Since}
-use Rattle.model.specs.Holds.{as_hold, Within, TimesOf}
+use Rattle.model.specs.Holds.{as_hold, Within, MoveOf}
 use Rattle.model.specs.Layout.{Job, Entries, instance_from, schedule_from, last_tick}
-use Rattle.model.proofs.FileLaws.{arrives-moved}
 use Rattle.model.proofs.LayoutLaws.{task-count, file-count, start-at}
 use Rattle.simulator.specs.Turns.{no_tick, Soonest}
 use Rattle.simulator.proofs.SoonestLaws.{soonest-none, soonest-same, soonest-or}
@@ -73,16 +72,11 @@ module _ (b : Shape) (J : Job) (L : Entries) where
     -- ---- a move
 
     module _ (k : ℕ) where
-      module _ (t : FileTimes) (times : TimesOf I P k t) where
-        pub move-turns : t.moves ≡ true → Soonest (λ u. eqb t.departs u || eqb t.arrives u) from r → Soonest (λ u. move_turns I P u k) from r
-        move-turns e =
-            let m : moved I P k ≡ true = sym times.moves ∙ e in
-            soonest-same (λ u. rw (m, times.departs, arrives-moved I P k t times e))
+      pub move-turns : {m : Transfer} → MoveOf I P k m → Soonest (λ u. eqb m.departs u || eqb m.arrives u) from r → Soonest (λ u. move_turns I P u k) from r
+      move-turns move = soonest-same (λ u. rw (move.moves, move.departs, move.arrives))
 
-        pub stays : t.moves ≡ false → r ≡ no_tick → Soonest (λ u. move_turns I P u k) from r
-        stays e =
-            let m : moved I P k ≡ false = sym times.moves ∙ e in
-            soonest-none _ (λ u. rw m) from
+      pub stays : moved I P k ≡ false → r ≡ no_tick → Soonest (λ u. move_turns I P u k) from r
+      stays m = soonest-none _ (λ u. rw m) from
 
     -- ---- a task, a file
 

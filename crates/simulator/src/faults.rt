@@ -14,7 +14,7 @@ use model::totals::held_at;
 use runs::overlapping_runs;
 use validator::exclusion::run_of;
 use validator::judgement::Verdict;
-use validator::timing::{moves_early, starts_early};
+use validator::timing::starts_early;
 
 // Whether two tasks are two, and their runs are on one processor and share an instant.
 fn overlapping_tasks<'a>(
@@ -120,10 +120,7 @@ fn shares_at<'a>(
 fn moves_early_at(times: FileTimes, t: u64) -> bool
     ensures { result ≡ early_move times t }
 {
-    if moves_early(times) {
-        return times.departs == t;
-    }
-    false
+    times.transfer.is_some_and(|transfer| transfer.departs < times.made && transfer.departs == t)
 }
 
 // Whether tick t is the start of a reader whose file has not arrived by then.

@@ -113,11 +113,10 @@ fn next_of_move<'a>(
     ensures { Soonest
         (λ u. move_turns (instance_of shape job.now) (schedule_of shape schedule.now) u k) from result }
 {
-    let times = file_times(shape, job, schedule, k);
-    if times.moves {
-        return next_of_two(from, times.departs, times.arrives);
+    match file_times(shape, job, schedule, k).transfer {
+        Some(transfer) => next_of_two(from, transfer.departs, transfer.arrives),
+        None => NO_TICK,
     }
-    NO_TICK
 }
 
 // The next start or end of file k's move or of one of its holds.

@@ -1,20 +1,21 @@
 -- The lowest reader of an early file is the lowest task that reads one.
 use Prim.Native.Nat.{ℕ, ◌<◌}
 use mathlib.Core.Bool.{Bool, true, false, ◌||◌}
-use mathlib.Core.Path.{◌≡◌, sym, ◌∙◌}
+use mathlib.Core.Path.{◌≡◌, ◌∙◌}
 use native.Mathlib.Omega.{arith}
-use lib.Dec.{eqb}
+use lib.Dec.{eqb, ltb}
 use borrow.Author.Tests.{eqb-true, eq-eqb}
 use Rattle.rules.specs.Count.{first_below}
-use Rattle.rules.specs.Model.{Instance, task_count, file_at, file_count, Schedule, moved}
+use Rattle.rules.specs.Model.{Instance, task_count, file_at, file_count, Schedule, made_at, start_at}
 use Rattle.rules.specs.Validity.{early, early_for, reads_early}
-use Rattle.rules.proofs.Tests.{split, and-true}
+use Rattle.rules.proofs.Tests.{and-true}
+use Rattle.std.specs.Prelude.{Option, Some, None}
 use Rattle.rules.proofs.ValidLaws.{early-moved, early-unmoved}
 use Rattle.rules.proofs.CountLaws.{any_found, any_some, first-is}
 use Rattle.model.specs.declared.residency.FileTimes.{FileTimes}
-use Rattle.model.specs.Holds.{TimesOf}
-use Rattle.model.proofs.FileLaws.{arrives-moved}
-use Rattle.validator.specs.Early.{too_early}
+use Rattle.model.specs.declared.residency.Transfer.{Transfer}
+use Rattle.model.specs.Holds.{TransferOf, TimesOf}
+use Rattle.validator.specs.Early.{departs_before, arrival, too_early}
 use Rattle.validator.specs.Least.{least_where}
 use Rattle.validator.proofs.LeastLaws.{least-default, least-bound, least-reached}
 
@@ -29,15 +30,15 @@ module _ {a b : Bool} (e : a ≡ b) where
   pub either_second : a ≡ false → {c d : Bool} → d ≡ c → d ≡ b || c
   either_second h g = rw (← e, h) g
 
+-- whether a file is early, from its move if it has one
+early-by : (I : Instance) (P : Schedule) (k : ℕ) (o : Option Transfer) → TransferOf I P k o
+    → departs_before o (made_at I P k) || ltb (start_at P (file_at I k).reader) (arrival o (made_at I P k)) ≡ early I P k
+early-by I P k (Some m) move = rw (early-moved I P k move.moves, move.departs, move.arrives)
+early-by I P k None stays = rw (early-unmoved I P k stays)
+
 -- whether a file is early, from its times
 pub early_from : {I : Instance} {P : Schedule} {k : ℕ} {t : FileTimes} {r : Bool} → TimesOf I P k t → r ≡ too_early t → r ≡ early I P k
-early_from {I} {P} {k} {t} times e = e ∙ split t.moves
-    (λ m.
-    let moves : moved I P k ≡ true = sym times.moves ∙ m in
-    rw (m, early-moved I P k moves, times.departs, times.made, times.starts, arrives-moved I P k t times m))
-    (λ m.
-    let stays : moved I P k ≡ false = sym times.moves ∙ m in
-    rw (m, early-unmoved I P k stays, times.made, times.starts))
+early_from {I} {P} {k} {t} times e = e ∙ rw (times.made, times.starts) (early-by I P k t.transfer times.transfer)
 
 module _ (I : Instance) (P : Schedule) where
   reads-early : (k j : ℕ) → k < file_count I → early I P k ≡ true → reader_of I k ≡ j → reads_early I P j ≡ true

@@ -15,17 +15,19 @@ use model::residency::{FileTimes, file_times};
 pub fn moves_early(times: FileTimes) -> bool
     ensures { result ≡ moves_early times }
 {
-    if times.moves {
-        return times.departs < times.made;
-    }
-    false
+    times
+        .transfer
+        .is_some_and(|transfer| transfer.departs < times.made)
 }
 
 // Whether the reader of a file with these times starts before it arrived.
 pub fn starts_early(times: FileTimes) -> bool
     ensures { result ≡ starts_early times }
 {
-    times.starts < select(times.moves, times.arrives, times.made)
+    match times.transfer {
+        Some(transfer) => times.starts < transfer.arrives,
+        None => times.starts < times.made,
+    }
 }
 
 // Whether either is so.
