@@ -1,6 +1,7 @@
 -- The code's colour, as the rules have it.
 use Rattle.std.specs.Prelude.{ℕ}
 use Rattle.rules.specs.Model as Rules
+use Rattle.model.specs.declared.colour.ByColour.{ByColour}
 use Rattle.model.specs.declared.colour.Colour.{Colour}
 use Rattle.model.specs.declared.colour.Colour.TheVariants.{Blue, Red}
 
@@ -12,3 +13,8 @@ as_colour Red = Rules.red
 abbrev pub by_colour : Colour → ℕ → ℕ → ℕ
 by_colour Blue m n = m
 by_colour Red m n = n
+
+-- the same of two values
+abbrev pub own : {T : Type 0} → Colour → ByColour T → T
+own Blue x = x.blue
+own Red x = x.red

@@ -1,13 +1,32 @@
 // The two colours, and what a file costs between them.
 ghost use Rattle.std.specs.Prelude.{◌≡◌, ◌≤◌, max, min};
 ghost use Rattle.rules.specs.Model.{move_time_between, newly_held};
-ghost use Rattle.model.specs.Colours.{as_colour, by_colour};
+ghost use Rattle.model.specs.Colours.{as_colour, by_colour, own};
 
 // The two kinds of processor, each with its memory.
 #[derive(Clone, Copy, PartialEq, Eq)]
 pub enum Colour {
     Blue,
     Red,
+}
+
+// A value for each colour.
+#[derive(Clone, Copy, Drop)]
+pub struct ByColour<T> {
+    pub blue: T,
+    pub red: T,
+}
+
+impl<T> ByColour<T> {
+    // The colour's own.
+    pub fn get(&self, colour: Colour) -> &T
+        ensures { result.now ≡ own colour self.now }
+    {
+        match colour {
+            Colour::Blue => &self.blue,
+            Colour::Red => &self.red,
+        }
+    }
 }
 
 // What a file costs a reader, of its move time C or its size F, here `amount`: 0 within a colour, whose memory holds it already, and all

@@ -11,3 +11,4 @@ pub mod residency;
 pub mod span;
 pub mod timetable;
 pub mod totals;
+pub mod trial;

@@ -8,7 +8,7 @@ use lib.ListN.{length, get_or, set, replicate}
 use lib.Seq.{get_or-set_same, get_or-set_other}
 use Rattle.rules.specs.Count.{list_below}
 use Rattle.rules.specs.Limits.{max_tasks, max_files}
-use Rattle.rules.specs.Model.{Instance, Run, unplaced, processor_count, file_count}
+use Rattle.rules.specs.Model.{Instance, Run, unplaced, processor_count, file_count, time_on, task_at}
 use Rattle.rules.specs.Scheduling.{Partial, slot_of, chosen_processor, move_with, assign, empty, finish_on}
 use Rattle.rules.proofs.CountLaws.{list-cong, list_set, list_same, get_or-same}
 use Rattle.model.specs.declared.layout.Shape.{Shape}
@@ -43,7 +43,7 @@ module _ {b : Shape} {J : Job} (f : JobBounds b J) (xs : StoredSchedule) (last :
     module _ {slot time : ℕ} (known : length last ≡ last_length)
         (moves : list_below b.files (entries_of ys).move_start ≡ list_below (file_count I) (move_with I (schedule_of b xs) i (as_colour x) s))
         (chosen : p ≡ chosen_processor I Q (as_colour x) s) (exists : p < count_in b x)
-        (here : slot ≡ slot_in b x p) (takes : time ≡ by_colour x (J.on_blue i) (J.on_red i)) where
+        (here : slot ≡ slot_in b x p) (takes : time ≡ time_on (as_colour x) (task_at I i)) where
       l : i < max_tasks
       l = omega (arith, f.tasks)
 
@@ -52,7 +52,7 @@ module _ {b : Shape} {J : Job} (f : JobBounds b J) (xs : StoredSchedule) (last :
       at = slot_at b J x _ ∙ rw (here, chosen)
 
       finish : s + time ≡ finish_on I i (as_colour x) s
-      finish = finish-on-at b J inside x s takes
+      finish = omega arith
 
       runs-placed : list_below b.tasks (run_from (entries_of (with_run_at ys i (slot + 1) s)))
           ≡ set (list_below b.tasks (run_from (entries_of xs))) i (record { processor = suc slot; start = s })

@@ -14,7 +14,8 @@ use Rattle.model.specs.declared.claim.Claim.{Claim}
 use Rattle.model.specs.Claims.{as_claim}
 use Rattle.text.specs.Wrote.{Wrote}
 use Rattle.planner.specs.declared.Outcome.{Outcome}
-use Rattle.planner.specs.declared.Outcome.TheVariants as Made
+use Rattle.planner.specs.declared.Stuck.{Stuck}
+use Rattle.std.specs.Prelude.{Ok, Err}
 use Rattle.planner.specs.Outcomes.{as_outcome, Claims}
 
 -- ---- the text fits, or not
@@ -32,15 +33,15 @@ module _ (text old : List ℕ) (trials : ℕ) {size : ℕ} (sized : size ≡ len
 -- ---- the outcome
 
 module _ (R : Planner) (I : Instance) (buffer : List ℕ) (P : Schedule) (r : Outcome) (made : as_outcome r P ≡ outcome R I) where
-  pub made-stuck : {k trials : ℕ} → r ≡ Made.Stuck k trials → answer 21 k trials buffer ≡ plan_on R I buffer
-  made-stuck {k} {trials} e = let o : outcome R I ≡ Rules.stuck k trials = sym made ∙ rw e in sym (ap (plan_made I buffer) o)
+  pub made-stuck : {x : Stuck} → r.claim ≡ Err x → answer 21 x.placed r.trials buffer ≡ plan_on R I buffer
+  made-stuck {x} e = let o : outcome R I ≡ Rules.stuck x.placed r.trials = sym made ∙ rw e in sym (ap (plan_made I buffer) o)
 
-  pub made-complete : {trials : ℕ} {claim : Claim} → r ≡ Made.Complete trials claim → outcome R I ≡ Rules.complete P trials
+  pub made-complete : {claim : Claim} → r.claim ≡ Ok claim → outcome R I ≡ Rules.complete P r.trials
   made-complete e = sym made ∙ rw e
 
-  pub made-written : {trials : ℕ} {claim : Claim} {a : Calls.Answer} → r ≡ Made.Complete trials claim → a ≡ written (plan_text I P) buffer trials → a ≡ plan_on R I buffer
+  pub made-written : {claim : Claim} {a : Calls.Answer} → r.claim ≡ Ok claim → a ≡ written (plan_text I P) buffer r.trials → a ≡ plan_on R I buffer
   made-written e w = w ∙ sym (ap (plan_made I buffer) (made-complete e))
 
   -- and what it claims is true
-  pub made-claim : {trials : ℕ} {claim : Claim} → r ≡ Made.Complete trials claim → Claims I P r → as_claim claim ≡ true_claim I P
+  pub made-claim : {claim : Claim} → r.claim ≡ Ok claim → Claims I P r → as_claim claim ≡ true_claim I P
   made-claim e c = rw e at c

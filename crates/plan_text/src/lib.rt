@@ -13,7 +13,7 @@ ghost use Rattle.plan_text.specs.Answers.{as_answer};
 use model::claim::Claim;
 use model::layout;
 use model::layout::Shape;
-use planner::{Outcome, Rule};
+use planner::Rule;
 
 // A planner's answer: on success the number is 0 and the place the bytes written.
 #[derive(Clone, Copy)]
@@ -65,14 +65,14 @@ pub fn plan_instance(rule: Rule, shape: Shape, job: &layout::Numbers, out: &mut 
     ensures { as_answer result out.new ≡ plan_on (as_planner rule) (instance_of shape job.now) out.old }
 {
     let mut schedule = layout::Schedule::new();
-    match planner::run(rule, shape, job, &mut schedule) {
-        Outcome::Stuck { placed, trials } => Answer {
+    let outcome = planner::run(rule, shape, job, &mut schedule);
+    let trials = outcome.trials;
+    match outcome.claim {
+        Ok(claim) => write_plan(shape, job, &schedule, claim, trials, out),
+        Err(stuck) => Answer {
             number: Answer::STUCK,
-            place: placed,
+            place: stuck.placed,
             trials,
         },
-        Outcome::Complete { trials, claim } => {
-            write_plan(shape, job, &schedule, claim, trials, out)
-        }
     }
 }

@@ -12,7 +12,10 @@ use Rattle.rules.proofs.LoosenedLaws.{plain_loosened, loosened_ample, loosened_c
 use Rattle.model.specs.declared.layout.Shape.{Shape}
 use Rattle.model.specs.Layout.{Job, Entries, instance_from, schedule_from}
 use Rattle.planner.specs.declared.Outcome.{Outcome}
-use Rattle.planner.specs.declared.Outcome.TheVariants.{Complete, Stuck}
+use Rattle.planner.specs.declared.Stuck.{Stuck}
+use Rattle.std.specs.Prelude.{Result, Ok, Err, IfOk}
+use Rattle.model.specs.declared.claim.Claim.{Claim}
+use Rattle.model.specs.Claims.{as_claim}
 use Rattle.planner.specs.Outcomes.{as_outcome, Claims}
 use Rattle.planner.specs.Boards.{board_by, Suited}
 
@@ -68,10 +71,16 @@ module _ (R : Planner) (b : Shape) (J : Job) {board : Board} {m : Memory} (e : m
         ap (as_outcome r) (sym s) ∙ q' ∙ own-outcome b J R
 
   pub own-claims : (L : Entries) (r : Outcome) → Claims (instance_from own J) (schedule_from own L) r → Claims (instance_from b J) (schedule_from b L) r
-  own-claims L (Complete trials claim) c =
-      let s : schedule_from own L ≡ schedule_from b L = ap (λ x. schedule_from x L) same_shape ∙ own-schedule (memory_of R) b L in
-      let i : true_claim (instance_from own J) (schedule_from own L) ≡ true_claim (instance_from b J) (schedule_from b L) =
-      ap (λ x. true_claim (instance_from x J) (schedule_from own L)) same_shape ∙ own-claim b J (memory_of R) (schedule_from own L)
-      ∙ ap (true_claim (instance_from b J)) s in
-      c ∙ i
-  own-claims L (Stuck placed trials) c = tt
+  own-claims L r c = by_end r.claim c
+    where
+      s : schedule_from own L ≡ schedule_from b L
+      s = ap (λ x. schedule_from x L) same_shape ∙ own-schedule (memory_of R) b L
+
+      i : true_claim (instance_from own J) (schedule_from own L) ≡ true_claim (instance_from b J) (schedule_from b L)
+      i = ap (λ x. true_claim (instance_from x J) (schedule_from own L)) same_shape ∙ own-claim b J (memory_of R) (schedule_from own L)
+          ∙ ap (true_claim (instance_from b J)) s
+
+      by_end : (x : Result Claim Stuck) → IfOk x (λ claim. as_claim claim ≡ true_claim (instance_from own J) (schedule_from own L))
+          → IfOk x (λ claim. as_claim claim ≡ true_claim (instance_from b J) (schedule_from b L))
+      by_end (Ok claim) h = h ∙ i
+      by_end (Err stuck) h = tt

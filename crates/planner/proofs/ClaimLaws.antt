@@ -3,13 +3,13 @@ use Prim.Native.Nat.{ℕ, ◌+◌, ◌-◌, ◌≤◌, ◌<◌, pred}
 use mathlib.Core.List.{List}
 use mathlib.Core.Path.{◌≡◌, sym, ap, ◌∙◌}
 use native.Mathlib.Omega.{arith}
-use lib.ListN.{get_or}
+use lib.ListN.{length, get_or}
 use Rattle.rules.specs.Count.{max_below}
 use Rattle.rules.specs.Model.{blue, red, Instance, Schedule, limit_of, processor_count}
 use Rattle.rules.specs.Model.{Colour as RulesColour}
 use Rattle.rules.specs.Promises.{WellFormed}
 use Rattle.rules.specs.Scheduling.{Partial}
-use Rattle.rules.specs.Staircase.{step_at, StandsOn, free_at, least_free, stairs}
+use Rattle.rules.specs.Staircase.{Step, step_at, StandsOn, free_at, least_free, stairs}
 use Rattle.rules.specs.Validity.{Complete, makespan, peak, true_claim}
 use Rattle.rules.proofs.CountLaws.{max-cong, min-bound}
 use Rattle.rules.proofs.StairsLaws.{stairs_law}
@@ -20,16 +20,14 @@ use Rattle.model.specs.declared.colour.Colour.TheVariants.{Blue, Red}
 use Rattle.model.specs.Claims.{as_claim}
 use Rattle.model.specs.Layout.{Job, Entries, instance_from, schedule_from, partial_from}
 use Rattle.model.proofs.LayoutLaws.{limit-of, last-finish-at}
-use Rattle.staircase.specs.declared.Counts.{Counts}
-use Rattle.staircase.specs.Steps.{steps_from}
+use Rattle.model.specs.declared.colour.ByColour.{ByColour}
 use Rattle.staircase.specs.Stairs.{HoldsStairs}
-use Rattle.staircase.proofs.ReadLaws.{first-step-at, least-steps}
-use Rattle.staircase.proofs.StairsLaws.{holds-count}
 use Rattle.starts.specs.Kept.{Kept}
 
 -- the least amount is no more than the first
-pub least_under : (T F : List ℕ) (n : ℕ) → 0 < n → least_free (steps_from T F n) ≤ get_or F 0 0
-least_under T F n l = omega (arith, least-steps F T n l, min-bound (pred n) (λ k. get_or F k 0) 0 (omega arith))
+pub least_under : (ss : List Step) → least_free ss ≤ (step_at ss 0).free
+unfolding least_free
+least_under ss = min-bound (pred (length ss)) (λ k. (step_at ss k).free) 0 (omega arith)
 
 -- the last finishes of a schedule, from the array
 pub latest-last : (b : Shape) (J : Job) (L : Entries) (last : List ℕ) {n : ℕ} → n ≡ b.board.blue.processors + b.board.red.processors
@@ -44,19 +42,20 @@ unfolding true_claim
 claims-are I Q p q r = rw (p, q, r)
 
 -- a limit is the greatest amount free, and what is free first is no more
-pub free-first : {I : Instance} {P : Schedule} {c : RulesColour} {T F : List ℕ} {n : ℕ} → WellFormed I → HoldsStairs I P c T F n → get_or F 0 0 ≤ limit_of I c
+pub free-first : {I : Instance} {P : Schedule} {c : RulesColour} {ss : List Step} → WellFormed I → HoldsStairs I P c ss → (step_at ss 0).free ≤ limit_of I c
 unfolding free_at
-free-first {I} {P} {c} {T} {F} {n} W H =
+free-first {I} {P} {c} {ss} W H =
     let l = stairs_law I W P c in
-    let k = holds-count H W in
-    let e : get_or F 0 0 ≡ (step_at (stairs I P c) 0).free = sym (ap (λ s. s.free) (first-step-at T F n 0 k.0)) ∙ ap (λ xs. (step_at xs 0).free) H.steps in
     let t : ℕ = (step_at (stairs I P c) 0).tick in
     let st : StandsOn (stairs I P c) t 0 =
     record { exists = l.0.one; begun = omega arith; goes_on = λ m. l.0.ascending 0 m } in
-    omega (arith, l.0.level t 0 st)
+    rw H.steps (omega (arith, l.0.level t 0 st))
 
-module _ (b : Shape) (J : Job) (L : Entries) (last : List ℕ) {table bt bf rt rf : List ℕ} {n : Counts}
-    (K : Kept (instance_from b J) (partial_from b L last) table bt bf rt rf n) (done : Complete (instance_from b J) (schedule_from b L)) (c : Claim) where
+pub holds-one : {I : Instance} {P : Schedule} {c : RulesColour} {ss : List Step} → WellFormed I → HoldsStairs I P c ss → 0 < length ss
+holds-one {I} {P} {c} W H = rw H.steps (stairs_law I W P c).0.one
+
+module _ (b : Shape) (J : Job) (L : Entries) (last : List ℕ) {table : List ℕ} {kept : ByColour (List Step)}
+    (K : Kept (instance_from b J) (partial_from b L last) table kept) (done : Complete (instance_from b J) (schedule_from b L)) (c : Claim) where
   abbrev I : Instance
   I = instance_from b J
 
@@ -64,7 +63,7 @@ module _ (b : Shape) (J : Job) (L : Entries) (last : List ℕ) {table bt bf rt r
   Q = partial_from b L last
 
   pub claim-true : c.span ≡ max_below (processor_count I) (λ p. get_or Q.last_finish p 0)
-      → c.blue_peak ≡ b.board.blue.limit - least_free (steps_from bt bf n.blue) → c.red_peak ≡ b.board.red.limit - least_free (steps_from rt rf n.red)
+      → c.blue_peak ≡ b.board.blue.limit - least_free kept.blue → c.red_peak ≡ b.board.red.limit - least_free kept.red
       → as_claim c ≡ true_claim I (schedule_from b L)
   unfolding instance_from schedule_from
   claim-true p q r = claims-are I Q {c = c}

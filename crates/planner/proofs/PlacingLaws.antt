@@ -8,7 +8,7 @@ use lib.ListN.{get_or}
 use Rattle.rules.specs.Limits.{max_tasks}
 use Rattle.rules.specs.Model as Rules
 use Rattle.rules.specs.Model.{Instance, Schedule, is_placed, run_at}
-use Rattle.rules.specs.Promises.{Trial}
+use Rattle.rules.specs.Promises.{Trial as IsTrial}
 use Rattle.rules.specs.Scheduling.{Partial, aware, assign}
 use Rattle.rules.specs.Staircase.{Placed, placed}
 use Rattle.rules.proofs.PlacedLaws.{assign-placed}
@@ -18,7 +18,9 @@ use Rattle.model.specs.declared.colour.Colour.{Colour}
 use Rattle.model.specs.Colours.{as_colour}
 use Rattle.model.specs.Layout.{Job, Entries, instance_from, schedule_from, partial_from, Bounds}
 use Rattle.model.proofs.LayoutLaws.{task-count, job-bounds}
-use Rattle.staircase.specs.declared.Counts.{Counts}
+use Rattle.rules.specs.Staircase.{Step}
+use Rattle.model.specs.declared.colour.ByColour.{ByColour}
+use Rattle.model.specs.declared.trial.Trial.{Trial}
 use Rattle.staircase.specs.Stairs.{HoldsStairs}
 use Rattle.needs.specs.declared.demand.Demand.{Demand}
 use Rattle.needs.specs.Table.{room_place, kept_place, demand_at, Needs, NeedsBut}
@@ -28,9 +30,18 @@ use Rattle.placement.specs.declared.memory.Sizes.{Sizes}
 use Rattle.placement.specs.Memory.{SizesOf}
 use Rattle.planner.proofs.RunLaws.{placed-bounds}
 
-module _ (b : Shape) (J : Job) (L : Entries) (last : List ℕ) {table bt bf rt rf : List ℕ} {n : Counts}
-    (K : Kept (instance_from b J) (partial_from b L last) table bt bf rt rf n) {i : ℕ} (colour : Colour) {s : ℕ}
-    (T : Trial aware (instance_from b J) (partial_from b L last) i (as_colour colour) s) where
+module _ (b : Shape) (J : Job) (L : Entries) (last : List ℕ) {table : List ℕ} {stairs : ByColour (List Step)}
+    (K : Kept (instance_from b J) (partial_from b L last) table stairs) (t : Trial)
+    (T : IsTrial aware (instance_from b J) (partial_from b L last) t.task (as_colour t.colour) t.start) where
+  abbrev i : ℕ
+  i = t.task
+
+  abbrev colour : Colour
+  colour = t.colour
+
+  abbrev s : ℕ
+  s = t.start
+
   abbrev I : Instance
   I = instance_from b J
 
@@ -44,7 +55,7 @@ module _ (b : Shape) (J : Job) (L : Entries) (last : List ℕ) {table bt bf rt r
   trial-index = omega (arith, trial-task, (job-bounds b J K.well_formed).tasks)
 
   pub placing-sizes : {d : Demand} {x : Sizes} → d ≡ demand_at table i colour → x.room ≡ get_or table (room_place i) 0 → x.kept ≡ get_or table (kept_place i) 0
-      → x.incoming ≡ d.incoming → SizesOf I (schedule_from b L) i (as_colour colour) x
+      → x.incoming ≡ d.incoming → SizesOf I (schedule_from b L) t x
   placing-sizes e r k m = record {
     room = r ∙ K.needs.room i T.exists;
     kept = k ∙ K.needs.kept i T.exists;
@@ -68,10 +79,10 @@ module _ (b : Shape) (J : Job) (L : Entries) (last : List ℕ) {table bt bf rt r
     pub after-needs : NeedsBut I (schedule_from b L') i table
     after-needs = rw (sym same) (needs-but I Q i (as_colour colour) s K.needs)
 
-    pub after_kept : {table' bt' bf' rt' rf' : List ℕ} {m : Counts} → Needs I (schedule_from b L') table'
-        → HoldsStairs I (assign I Q i (as_colour colour) s).schedule Rules.blue bt' bf' m.blue
-        → HoldsStairs I (assign I Q i (as_colour colour) s).schedule Rules.red rt' rf' m.red
-        → Kept I (partial_from b L' last') table' bt' bf' rt' rf' m
+    pub after_kept : {table' : List ℕ} {stairs' : ByColour (List Step)} → Needs I (schedule_from b L') table'
+        → HoldsStairs I (assign I Q i (as_colour colour) s).schedule Rules.blue stairs'.blue
+        → HoldsStairs I (assign I Q i (as_colour colour) s).schedule Rules.red stairs'.red
+        → Kept I (partial_from b L' last') table' stairs'
     after_kept needs x y = record {
       well_formed = K.well_formed;
       placed = after;

@@ -10,7 +10,7 @@ use Rattle.rules.specs.Model.{blue, red, Instance, task_count}
 use Rattle.rules.specs.Model.{Colour as RulesColour}
 use Rattle.rules.specs.Validity.{Complete}
 use Rattle.rules.specs.Scheduling.{Partial, Memory, aware, plain, empty, assign, nothing, choose, Planner, memory_of, round_of, complete, stuck, rounds, outcome}
-use Rattle.rules.specs.Promises.{WellFormed, Trial, Ample}
+use Rattle.rules.specs.Promises.{WellFormed, Trial as IsTrial, Ample}
 use Rattle.rules.specs.Staircase.{Placed, unplaced}
 use Rattle.rules.proofs.RoundLaws.{round-trial}
 use Rattle.rules.proofs.PlacedLaws.{all-counted, count-waits}
@@ -24,28 +24,30 @@ use Rattle.model.specs.declared.colour.Colour.TheVariants.{Blue, Red}
 use Rattle.model.specs.Colours.{as_colour}
 use Rattle.model.specs.Layout.{Job, Entries, instance_from, schedule_from, partial_from, Bounds, LastBounds}
 use Rattle.model.proofs.LayoutLaws.{task-count, file-count, limit-of, run-at, move-at, last-finish-at, job-bounds}
-use Rattle.staircase.specs.declared.Counts.{Counts}
+use Rattle.std.specs.Prelude.{Option, None, Some}
+use Rattle.rules.specs.Staircase.{Step}
+use Rattle.model.specs.declared.colour.ByColour.{ByColour}
+use Rattle.model.specs.declared.trial.Trial.{Trial}
 use Rattle.staircase.specs.Stairs.{HoldsStairs}
-use Rattle.staircase.proofs.StairsLaws.{holds-count, holds-ticks}
+use Rattle.staircase.proofs.StairsLaws.{holds-ticks}
 use Rattle.needs.specs.Table.{Needs, NeedsBounds}
 use Rattle.starts.specs.Kept.{Kept, KeptBounds, TicksWithin}
 use Rattle.selection.specs.declared.round.Round.{Round}
-use Rattle.selection.specs.declared.trial.Choice.TheVariants.{Nothing, Choose}
-use Rattle.selection.specs.Choices.{as_choice, as_round}
+use Rattle.selection.specs.Choices.{as_choice, as_round, TrialBounds, ChoiceBounds}
 use Rattle.planner.specs.Outcomes.{FreeWithin}
 use Rattle.planner.specs.Boards.{Suited}
-use Rattle.planner.proofs.ClaimLaws.{free-first}
+use Rattle.planner.proofs.ClaimLaws.{holds-one, free-first}
 
-pub record Planning (R : Planner) (b : Shape) (J : Job) (L : Entries) (last table bt bf rt rf : List ℕ) (n : Counts) (placed trials : ℕ) : Type 0 where
+pub record Planning (R : Planner) (b : Shape) (J : Job) (L : Entries) (last table : List ℕ) (stairs : ByColour (List Step)) (placed trials : ℕ) : Type 0 where
   pub most : placed ≤ b.tasks
   pub sound : Sound (instance_from b J) placed (partial_from b L last)
-  pub kept : Kept (instance_from b J) (partial_from b L last) table bt bf rt rf n
+  pub kept : Kept (instance_from b J) (partial_from b L last) table stairs
   pub numbers : NeedsBounds table
   pub rest : outcome R (instance_from b J) ≡ rounds R (instance_from b J) (b.tasks - placed) (partial_from b L last) trials
   pub counted : trials ≤ 2 * max_tasks * placed
 
 -- a trial of a planner that goes by its own board is one of a memory-aware planner
-suited-trial : (m : Memory) (I : Instance) → WellFormed I → (m ≡ plain → Ample I) → (Q : Partial) (i : ℕ) (c : RulesColour) (s : ℕ) → Trial m I Q i c s → Trial aware I Q i c s
+suited-trial : (m : Memory) (I : Instance) → WellFormed I → (m ≡ plain → Ample I) → (Q : Partial) (i : ℕ) (c : RulesColour) (s : ℕ) → IsTrial m I Q i c s → IsTrial aware I Q i c s
 suited-trial aware I W a Q i c s t = t
 suited-trial plain I W a Q i c s t = aware-trial I W (a refl) Q plain i c s t
 
@@ -68,9 +70,8 @@ module _ (b : Shape) (J : Job) (W : WellFormed (instance_from b J)) (L : Entries
   pub sound-last : LastBounds b last
   sound-last q h = omega (arith, last-finish-at b L last q h, S.last_bound q, few)
 
-  pub sound-ticks : (c : RulesColour) {T F : List ℕ} {n : ℕ} → HoldsStairs (instance_from b J) (schedule_from b L) c T F n → TicksWithin T n
+  pub sound-ticks : (c : RulesColour) {ss : List Step} → HoldsStairs (instance_from b J) (schedule_from b L) c ss → TicksWithin ss
   sound-ticks c H = record {
-    pairs = (holds-count H W).1;
     last = λ k l. omega (arith, holds-ticks H k l, horizon-bound (instance_from b J) W placed (partial_from b L last) S c, few);
   }
 
@@ -79,6 +80,9 @@ pub placed-bounds : (b : Shape) (J : Job) → WellFormed (instance_from b J) →
 placed-bounds b J W L last p =
     let r = placed-sound (instance_from b J) W p in
     sound-bounds b J W L last r.1 (omega (arith, r.1.count, count-waits (instance_from b J) (schedule_from b L), task-count b J))
+
+pub chosen-bounds : (b : Shape) {o : Option Trial} {t : Trial} → o ≡ Some t → ChoiceBounds b o → TrialBounds b t
+chosen-bounds b e h = rw e at h
 
 -- nothing placed
 pub empty-bounds : (b : Shape) (J : Job) → WellFormed (instance_from b J) → (L : Entries) (last : List ℕ) → partial_from b L last ≡ empty (instance_from b J) → Bounds b J L
@@ -90,10 +94,10 @@ module _ (R : Planner) (b : Shape) (J : Job) (W : WellFormed (instance_from b J)
   abbrev I : Instance
   I = instance_from b J
 
-  pub planning-start : (L : Entries) (last table : List ℕ) {bt bf rt rf : List ℕ} {n : Counts} → partial_from b L last ≡ empty I
+  pub planning-start : (L : Entries) (last table : List ℕ) {stairs : ByColour (List Step)} → partial_from b L last ≡ empty I
       → Needs I (schedule_from b L) table → NeedsBounds table
-      → HoldsStairs I (empty I).schedule blue bt bf n.blue → HoldsStairs I (empty I).schedule red rt rf n.red
-      → Planning R b J L last table bt bf rt rf n 0 0
+      → HoldsStairs I (empty I).schedule blue stairs.blue → HoldsStairs I (empty I).schedule red stairs.red
+      → Planning R b J L last table stairs 0 0
   planning-start L last table e needs numbers hb hr = record {
     most = omega arith;
     sound = rw e (empty-sound I);
@@ -112,7 +116,7 @@ module _ (R : Planner) (b : Shape) (J : Job) (W : WellFormed (instance_from b J)
       none-placed : b.tasks - 0 ≡ b.tasks
       none-placed = omega arith
 
-  module _ {L : Entries} {last table bt bf rt rf : List ℕ} {n : Counts} {placed trials : ℕ} (p : Planning R b J L last table bt bf rt rf n placed trials) where
+  module _ {L : Entries} {last table : List ℕ} {stairs : ByColour (List Step)} {placed trials : ℕ} (p : Planning R b J L last table stairs placed trials) where
     abbrev Q : Partial
     Q = partial_from b L last
 
@@ -121,7 +125,7 @@ module _ (R : Planner) (b : Shape) (J : Job) (W : WellFormed (instance_from b J)
     pub planning-last : LastBounds b last
     planning-last = sound-last b J W L last p.sound p.most
 
-    pub planning-numbers : KeptBounds table bt rt n
+    pub planning-numbers : KeptBounds table stairs
     planning-numbers = record {
       needs = p.numbers;
       blue = sound-ticks b J W L last p.sound p.most blue p.kept.blue;
@@ -141,7 +145,7 @@ module _ (R : Planner) (b : Shape) (J : Job) (W : WellFormed (instance_from b J)
         trials-are : trials + x.trials ≡ trials + (round_of R I Q).trials
         trials-are = ap (λ r. trials + r.trials) made
 
-        pub planning-stuck : x.choice ≡ Nothing → stuck placed (trials + x.trials) ≡ outcome R I
+        pub planning-stuck : x.choice ≡ None → stuck placed (trials + x.trials) ≡ outcome R I
         planning-stuck none =
             let e : (round_of R I Q).choice ≡ nothing = sym choice-is ∙ rw none in
             let left = b.tasks - (placed + 1) in
@@ -150,19 +154,28 @@ module _ (R : Planner) (b : Shape) (J : Job) (W : WellFormed (instance_from b J)
             rw (one_more, trials-are) (rounds-stuck R I left Q trials e ∙ ap (λ k. stuck k (trials + (round_of R I Q).trials)) count) in
             sym (p.rest ∙ halt)
 
-        module _ {i : ℕ} {colour : Colour} {s : ℕ} (chosen : x.choice ≡ Choose i colour s) where
+        module _ {t : Trial} (chosen : x.choice ≡ Some t) where
+          abbrev i : ℕ
+          i = t.task
+
+          abbrev colour : Colour
+          colour = t.colour
+
+          abbrev s : ℕ
+          s = t.start
+
           chosen_is : (round_of R I Q).choice ≡ choose i (as_colour colour) s
           chosen_is = sym choice-is ∙ rw chosen
 
-          trial : Trial (memory_of R) I Q i (as_colour colour) s
+          trial : IsTrial (memory_of R) I Q i (as_colour colour) s
           trial = round-trial R I Q i (as_colour colour) s chosen_is
 
-          pub planning-trial : Trial aware I Q i (as_colour colour) s
+          pub planning-trial : IsTrial aware I Q i (as_colour colour) s
           planning-trial = suited-trial (memory_of R) I W A Q i (as_colour colour) s trial
 
-          pub planning-next : {L' : Entries} {last' table' bt' bf' rt' rf' : List ℕ} {n' : Counts} → partial_from b L' last' ≡ assign I Q i (as_colour colour) s
-              → Kept I (partial_from b L' last') table' bt' bf' rt' rf' n' → NeedsBounds table' → x.trials ≤ 2 * b.tasks
-              → Planning R b J L' last' table' bt' bf' rt' rf' n' (placed + 1) (trials + x.trials)
+          pub planning-next : {L' : Entries} {last' table' : List ℕ} {stairs' : ByColour (List Step)} → partial_from b L' last' ≡ assign I Q i (as_colour colour) s
+              → Kept I (partial_from b L' last') table' stairs' → NeedsBounds table' → x.trials ≤ 2 * b.tasks
+              → Planning R b J L' last' table' stairs' (placed + 1) (trials + x.trials)
           planning-next q kept numbers t = record {
             most = omega arith;
             sound = rw (add-one placed, q) (assign-sound I W placed Q p.sound (memory_of R) i (as_colour colour) s trial);
@@ -182,10 +195,8 @@ module _ (R : Planner) (b : Shape) (J : Job) (W : WellFormed (instance_from b J)
     pub planning-complete : b.tasks ≤ placed → Complete I (schedule_from b L)
     planning-complete h = all-counted I (schedule_from b L) (omega (arith, p.sound.count, p.most, task-count b J))
 
-    pub planning-free : FreeWithin b.board.blue.limit bf n.blue × FreeWithin b.board.red.limit rf n.red
-    planning-free =
-        let x = holds-count p.kept.blue W in
-        let y = holds-count p.kept.red W in (
-          record { one = x.0; pairs = x.1; first = omega (arith, free-first W p.kept.blue, limit-of b J Blue) },
-          record { one = y.0; pairs = y.1; first = omega (arith, free-first W p.kept.red, limit-of b J Red) },
-        )
+    pub planning-free : FreeWithin b.board.blue.limit stairs.blue × FreeWithin b.board.red.limit stairs.red
+    planning-free = (
+      record { one = holds-one W p.kept.blue; first = omega (arith, free-first W p.kept.blue, limit-of b J Blue) },
+      record { one = holds-one W p.kept.red; first = omega (arith, free-first W p.kept.red, limit-of b J Red) },
+    )

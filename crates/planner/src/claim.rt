@@ -6,15 +6,14 @@ ghost use Rattle.rules.specs.Staircase.{least_free};
 ghost use Rattle.rules.specs.Validity.{Complete, true_claim};
 ghost use Rattle.model.specs.Claims.{as_claim};
 ghost use Rattle.model.specs.Layout.{Job, Entries, instance_from, partial_from, schedule_from, Processors};
-ghost use Rattle.staircase.specs.Steps.{steps_from};
 ghost use Rattle.starts.specs.Kept.{Kept};
 ghost use Rattle.planner.specs.Outcomes.{FreeWithin};
 
-use model::choice::greater;
 use model::claim::Claim;
+use model::colour::ByColour;
 use model::layout;
 use model::layout::Shape;
-use staircase::{Counts, PAIRS, least};
+use staircase::Staircase;
 
 // The latest of the last finishes.
 fn latest_finish(shape: Shape, last: &[u64; layout::LAST]) -> u64
@@ -24,40 +23,32 @@ fn latest_finish(shape: Shape, last: &[u64; layout::LAST]) -> u64
 {
     let n = (shape.board.blue.processors + shape.board.red.processors) as usize;
     let mut most: u64 = 0;
-    let mut p: usize = 0;
-    while p < n {
-        most = greater(most, last[p]);
-        p += 1;
+    for finish in &last[..n] {
+        most = most.max(*finish);
     }
     most
 }
 
 // The greatest amount held under a limit: what is not free where the least is.
-fn peak(limit: u64, free: &[u64; PAIRS], n: usize) -> u64
-    requires { FreeWithin limit free.now n }
-    ensures { (ticks : List ℕ) → result ≡ limit - least_free (steps_from ticks free.now n) }
+fn peak(limit: u64, staircase: &Staircase) -> u64
+    requires { FreeWithin limit staircase.now }
+    ensures { result ≡ limit - least_free staircase.now }
 {
-    limit - least(free, n)
+    limit - staircase.least()
 }
 
 // What a complete schedule has to claim, from what is kept beside it.
-pub fn claim_from<'a>(
-    shape: Shape,
-    last: &'a [u64; layout::LAST],
-    blue_free: &'a [u64; PAIRS],
-    red_free: &'a [u64; PAIRS],
-    n: Counts,
-) -> Claim
+pub fn claim_from(shape: Shape, last: &[u64; layout::LAST], stairs: &ByColour<Staircase>) -> Claim
     requires processors { Processors shape }
-    requires free_within { FreeWithin shape.board.blue.limit blue_free.now n.blue × FreeWithin shape.board.red.limit red_free.now n.red }
-    ensures { (J : Job) (L : Entries) (needs blue_ticks red_ticks : List ℕ) →
-        Kept (instance_from shape J) (partial_from shape L last.now) needs blue_ticks blue_free.now red_ticks red_free.now n →
+    requires free_within { FreeWithin shape.board.blue.limit stairs.now.blue × FreeWithin shape.board.red.limit stairs.now.red }
+    ensures { (J : Job) (L : Entries) (needs : List ℕ) →
+        Kept (instance_from shape J) (partial_from shape L last.now) needs stairs.now →
         Complete (instance_from shape J) (schedule_from shape L) →
         as_claim result ≡ true_claim (instance_from shape J) (schedule_from shape L) }
 {
     Claim {
         span: latest_finish(shape, last),
-        blue_peak: peak(shape.board.blue.limit, blue_free, n.blue),
-        red_peak: peak(shape.board.red.limit, red_free, n.red),
+        blue_peak: peak(shape.board.blue.limit, &stairs.blue),
+        red_peak: peak(shape.board.red.limit, &stairs.red),
     }
 }

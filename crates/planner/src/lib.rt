@@ -27,11 +27,17 @@ pub enum Rule {
     MinMin(Memory),
 }
 
-// All tasks placed, with what the schedule has to claim, or stuck after so many; and the trials made.
+// What is left of a planner's rounds: the trials made, and the claim of the complete schedule, or how many tasks were placed when it was stuck.
 #[derive(Clone, Copy)]
-pub enum Outcome {
-    Complete { trials: u64, claim: Claim },
-    Stuck { placed: u64, trials: u64 },
+pub struct Outcome {
+    pub trials: u64,
+    pub claim: Result<Claim, Stuck>,
+}
+
+// No ready task fits, with so many placed.
+#[derive(Clone, Copy)]
+pub struct Stuck {
+    pub placed: u64,
 }
 
 // The side with the greatest limit, which holds all that any job has.

@@ -17,14 +17,22 @@ use Rattle.rules.proofs.Tests.{split, clash}
 use Rattle.model.specs.declared.layout.Shape.{Shape}
 use Rattle.model.specs.Layout.{Job, Entries, instance_from, partial_from}
 use Rattle.model.proofs.LayoutLaws.{task-count}
-use Rattle.staircase.specs.declared.Counts.{Counts}
 use Rattle.needs.proofs.NeedsLaws.{mark-ready}
 use Rattle.starts.specs.Kept.{Kept}
-use Rattle.selection.specs.declared.trial.Choice.{Choice}
-use Rattle.selection.specs.declared.trial.Choice.TheVariants.{Nothing}
-use Rattle.selection.specs.declared.trial.Idle.{Idle}
 use Rattle.selection.specs.declared.round.Round.{Round}
+use Rattle.std.specs.Prelude.{Option, None, Some, is_some}
+use Rattle.rules.specs.Staircase.{Step}
+use Rattle.model.specs.declared.colour.ByColour.{ByColour}
+use Rattle.model.specs.declared.trial.Trial.{Trial}
 use Rattle.selection.specs.Choices.{as_choice, as_round, is_chosen, IdleOf}
+
+-- whether there is a choice
+some_chosen : (o : Option Trial) → is_some o ≡ is_chosen (as_choice o)
+some_chosen None = refl
+some_chosen (Some t) = refl
+
+pub chosen_is : (o : Option Trial) {x : Bool} → x ≡ is_some o → x ≡ is_chosen (as_choice o)
+chosen_is o e = e ∙ some_chosen o
 
 -- a round, with trials made before it
 abbrev pub after : ℕ → Made → Made
@@ -97,12 +105,12 @@ module _ (m : Memory) (I : Instance) (Q : Partial) (i : ℕ) where
 
 -- ---- one task, from its mark in the table
 
-module _ {I : Instance} {Q : Partial} {table bt bf rt rf : List ℕ} {n : Counts} (K : Kept I Q table bt bf rt rf n) {i : ℕ} (h : i < task_count I)
+module _ {I : Instance} {Q : Partial} {table : List ℕ} {stairs : ByColour (List Step)} (K : Kept I Q table stairs) {i : ℕ} (h : i < task_count I)
     {x : Bool} (r : x ≡ ltb 0 (get_or table i 0)) where
   pub is-ready : ready I Q.schedule i ≡ x
   is-ready = sym (mark-ready K.needs h r)
 
-  pub one-tried : (m : Memory) → x ≡ true → (a : Choice) → as_choice a ≡ both_colours m I Q i → record { choice = as_choice a; trials = 2 } ≡ first_that_fits m I Q (i ∷ [])
+  pub one-tried : (m : Memory) → x ≡ true → (a : Option Trial) → as_choice a ≡ both_colours m I Q i → record { choice = as_choice a; trials = 2 } ≡ first_that_fits m I Q (i ∷ [])
   one-tried m t a e = rw (one-ready m I Q i (is-ready ∙ t), e)
 
   pub one_left : (m : Memory) → x ≡ false → record { choice = nothing; trials = 0 } ≡ first_that_fits m I Q (i ∷ [])
@@ -136,14 +144,14 @@ module _ (m : Memory) (b : Shape) (J : Job) (L : Entries) (last : List ℕ) wher
       (λ e. rw (add-one n, e, one-waits m I Q n e, earlier-nothing I (earliest_below m I Q n).choice, add-zero (earliest_below m I Q n).trials))
 
   module _ (n : ℕ) (one : Round) (e : as_round one ≡ first_that_fits m I Q (n ∷ [])) where
-    choice-turn : (old new : Choice) → as_choice old ≡ (earliest_below m I Q n).choice → as_choice new ≡ earlier I (as_choice old) (as_choice one.choice)
+    choice-turn : (old new : Option Trial) → as_choice old ≡ (earliest_below m I Q n).choice → as_choice new ≡ earlier I (as_choice old) (as_choice one.choice)
         → as_choice new ≡ (earliest_below m I Q (n + 1)).choice
     choice-turn old new p q = rw (below_next n, ← e) (q ∙ rw p)
 
     trials-turn : (earliest_below m I Q (n + 1)).trials ≡ (earliest_below m I Q n).trials + one.trials
     trials-turn = rw (below_next n, ← e)
 
-  below_total : {n : ℕ} → n ≡ b.tasks → (a : Choice) {t : ℕ} → as_choice a ≡ (earliest_below m I Q n).choice → t ≡ (earliest_below m I Q n).trials
+  below_total : {n : ℕ} → n ≡ b.tasks → (a : Option Trial) {t : ℕ} → as_choice a ≡ (earliest_below m I Q n).choice → t ≡ (earliest_below m I Q n).trials
       → record { choice = as_choice a; trials = t } ≡ earliest_below m I Q (task_count I)
   below_total e a p q = let c = task-count b J ∙ sym e in rw (c, p, q)
 
@@ -182,33 +190,33 @@ module _ (m : Memory) (b : Shape) (J : Job) (L : Entries) (last : List ℕ) wher
 
 -- ---- the loops: whatever schedule stands behind what is kept
 
-module _ (m : Memory) (b : Shape) (J : Job) (last table bt bf rt rf : List ℕ) (n : Counts) where
+module _ (m : Memory) (b : Shape) (J : Job) (last table : List ℕ) (stairs : ByColour (List Step)) where
   -- what is kept beside a schedule with these last finishes
   abbrev pub KeptFor : Entries → Type 0
-  KeptFor L = Kept (instance_from b J) (partial_from b L last) table bt bf rt rf n
+  KeptFor L = Kept (instance_from b J) (partial_from b L last) table stairs
 
   -- one task was tried alone
-  abbrev pub TriedOne : Round → ℕ → Idle → Type 0
+  abbrev pub TriedOne : Round → ℕ → ByColour ℕ → Type 0
   TriedOne one i idle =
-      (Q : Partial) → Kept (instance_from b J) Q table bt bf rt rf n → IdleOf (instance_from b J) Q idle → as_round one ≡ first_that_fits m (instance_from b J) Q (i ∷ [])
+      (Q : Partial) → Kept (instance_from b J) Q table stairs → IdleOf (instance_from b J) Q idle → as_round one ≡ first_that_fits m (instance_from b J) Q (i ∷ [])
 
   -- the round of the tasks below i
-  pub record Passed (choice : Choice) (trials i : ℕ) : Type 0 where
+  pub record Passed (choice : Option Trial) (trials i : ℕ) : Type 0 where
     pub chosen : (L : Entries) → KeptFor L → as_choice choice ≡ (earliest_below m (instance_from b J) (partial_from b L last) i).choice
     pub tried : (L : Entries) → KeptFor L → trials ≡ (earliest_below m (instance_from b J) (partial_from b L last) i).trials
 
-  pub passed_none : Passed Nothing 0 0
+  pub passed_none : Passed None 0 0
   passed_none = record { chosen = λ L k. sym (below-choice m b J L last); tried = λ L k. sym (below-trials m b J L last) }
 
-  module _ {idle : Idle} (starts : (K : Job) (L : Entries) → IdleOf (instance_from b K) (partial_from b L last) idle) where
-    pub passed-next : {i trials : ℕ} {old new : Choice} (one : Round) → Passed old trials i → TriedOne one i idle
+  module _ {idle : ByColour ℕ} (starts : (K : Job) (L : Entries) → IdleOf (instance_from b K) (partial_from b L last) idle) where
+    pub passed-next : {i trials : ℕ} {old new : Option Trial} (one : Round) → Passed old trials i → TriedOne one i idle
         → as_choice new ≡ earlier (instance_from b J) (as_choice old) (as_choice one.choice) → Passed new (trials + one.trials) (i + 1)
     passed-next {i} {trials} {old} {new} one p o e = record {
       chosen = λ L k. choice-turn m b J L last i one (o (partial_from b L last) k (starts J L)) old new (p.chosen L k) e;
       tried = λ L k. omega (arith, p.tried L k, trials-turn m b J L last i one (o (partial_from b L last) k (starts J L)));
     }
 
-  pub passed-all : {i trials : ℕ} {choice : Choice} → Passed choice trials i → i ≡ b.tasks → (L : Entries) → KeptFor L
+  pub passed-all : {i trials : ℕ} {choice : Option Trial} → Passed choice trials i → i ≡ b.tasks → (L : Entries) → KeptFor L
       → record { choice = as_choice choice; trials = trials } ≡ earliest_below m (instance_from b J) (partial_from b L last) (task_count (instance_from b J))
   passed-all {i} {trials} {choice} p e = λ L k. below_total m b J L last e choice (p.chosen L k) (p.tried L k)
 
@@ -229,7 +237,7 @@ module _ (m : Memory) (b : Shape) (J : Job) (last table bt bf rt rf : List ℕ) 
     pub left_end : {i trials : ℕ} → LeftFor i trials → i ≡ b.tasks → Found nothing trials
     left_end left e = λ L k. left-none m b J L last order (left L k) e
 
-  module _ {idle : Idle} (starts : (K : Job) (L : Entries) → IdleOf (instance_from b K) (partial_from b L last) idle) (order : List ℕ) {i : ℕ} (trials : ℕ)
+  module _ {idle : ByColour ℕ} (starts : (K : Job) (L : Entries) → IdleOf (instance_from b K) (partial_from b L last) idle) (order : List ℕ) {i : ℕ} (trials : ℕ)
       (h : i < b.tasks) (left : LeftFor order i trials) (one : Round) (o : TriedOne one (get_or order i 0) idle)
       {x : Bool} (c : x ≡ is_chosen (as_choice one.choice)) where
     pub left-on : x ≡ false → LeftFor order (i + 1) (trials + one.trials)

@@ -1,4 +1,4 @@
--- A memory's staircase by the hold rule, kept in two arrays.
+-- A memory's staircase by the hold rule, as it is kept.
 use Prim.Native.Nat.{ℕ, zero, suc, ◌≤◌, ◌<◌}
 use mathlib.Core.List.{List, [], ◌∷◌, ◌++◌}
 use mathlib.Core.Path.{◌≡◌, sym, ◌∙◌, ap}
@@ -16,10 +16,8 @@ use Rattle.rules.proofs.Tests.{split, by_order}
 use Rattle.rules.proofs.StairsLaws.{stairs-are, stairs_law, stairs_read_law}
 use Rattle.rules.proofs.StairsStartLaws.{stairs_start}
 use Rattle.rules.proofs.GroupedLaws.{grouped-kept, grouped-room, grouped-steps, grouped-amounts}
-use Rattle.staircase.specs.Slots.{Sized}
-use Rattle.staircase.specs.Steps.{steps_from, start_steps}
+use Rattle.staircase.specs.Steps.{start_steps}
 use Rattle.staircase.specs.Stairs.{HoldsStairs, Pending, Made}
-use Rattle.staircase.proofs.ReadLaws.{steps-length, first-step-at}
 
 -- ---- no step is later than the last tick looked at
 
@@ -38,56 +36,40 @@ steps-within f (suc m) k l = split (eqb (f m) (f (suc m)))
     (λ e. rw e (step-more (steps_up_to f m) (record { tick = suc m; free = f (suc m) }) (suc m) k (λ j b. omega (arith, steps-within f m j b)) (omega arith)
     (rw e at l)))
 
--- ---- what arrays hold that hold a memory's staircase
+-- ---- what is known of steps that are a memory's staircase
 
 free-under : (I : Instance) (P : Schedule) (c : Colour) (t : ℕ) → free_at I P c t ≤ limit_of I c
 unfolding free_at
 free-under I P c t = omega arith
 
-module _ {I : Instance} {P : Schedule} {c : Colour} {T F : List ℕ} {n : ℕ} (H : HoldsStairs I P c T F n) where
-  size : n ≡ length (stairs I P c)
-  size = sym (steps-length T F n 0) ∙ ap length H.steps
-
-  pub holds-count : WellFormed I → (0 < n) × (n ≤ max_pairs)
-  holds-count W = let l = stairs_law I W P c in (omega (arith, l.0.one, size), omega (arith, l.1, size))
-
-  pub holds-ticks : (k : ℕ) → k < n → get_or T k 0 ≤ horizon I P c
+module _ {I : Instance} {P : Schedule} {c : Colour} {ss : List Step} (H : HoldsStairs I P c ss) where
+  pub holds-ticks : (k : ℕ) → k < length ss → (step_at ss k).tick ≤ horizon I P c
   unfolding stairs
-  holds-ticks k l =
-      let e : get_or T k 0 ≡ (step_at (stairs I P c) k).tick = sym (ap (λ s. s.tick) (first-step-at T F n k l)) ∙ ap (λ xs. (step_at xs k).tick) H.steps in
-      omega (arith, e, steps-within (free_at I P c) (horizon I P c) k (omega (arith, size)))
+  holds-ticks k l = rw H.steps (steps-within (free_at I P c) (horizon I P c) k (omega (arith, ap length H.steps)))
 
--- starts 3 and 4 are read from the arrays
-pub holds_read : {I : Instance} {Q : Partial} {c : Colour} {T F : List ℕ} {n : ℕ} → WellFormed I → Placed I Q → HoldsStairs I Q.schedule c T F n → (need : ℕ)
-    → free_from_steps (steps_from T F n) need ≡ free_from I Q.schedule c need
+-- starts 3 and 4 are read from it
+pub holds_read : {I : Instance} {Q : Partial} {c : Colour} {ss : List Step} → WellFormed I → Placed I Q → HoldsStairs I Q.schedule c ss → (need : ℕ)
+    → free_from_steps ss need ≡ free_from I Q.schedule c need
 holds_read {I} {Q} {c} W p H need = ap (λ xs. free_from_steps xs need) H.steps ∙ stairs_read_law I W Q p c need
 
 -- with nothing placed
-pub holds-start : {I : Instance} → WellFormed I → (c : Colour) (T F : List ℕ) (n : ℕ) → steps_from T F n ≡ start_steps (limit_of I c) → Sized T × Sized F
-    → HoldsStairs I (empty I).schedule c T F n
-holds-start {I} W c T F n e s = record { tick_slots = s.0; free_slots = s.1; steps = e ∙ sym (stairs_start I W c) }
+pub holds-start : {I : Instance} → WellFormed I → (c : Colour) (ss : List Step) → ss ≡ start_steps (limit_of I c) → HoldsStairs I (empty I).schedule c ss
+holds-start {I} W c ss e = record { steps = e ∙ sym (stairs_start I W c) }
 
 -- ---- a placing
 
 module _ (I : Instance) (W : WellFormed I) (Q : Partial) (p : Placed I Q) (i : ℕ) (c : Colour) (s : ℕ) (A : Trial aware I Q i c s) (d : Colour)
-    {T F : List ℕ} {n : ℕ} (H : HoldsStairs I Q.schedule d T F n) where
+    {ss : List Step} (H : HoldsStairs I Q.schedule d ss) where
   -- there is room for its changes
-  pub pending-placing : Pending (grouped_changes I Q.schedule i c s d) T F n
+  pub pending-placing : Pending (grouped_changes I Q.schedule i c s d) ss
   pending-placing = record {
     free = free_at I Q.schedule d;
-    tick_slots = H.tick_slots;
-    free_slots = H.free_slots;
     staircase = rw H.steps (stairs-are I Q.schedule d);
-    slots = omega (arith, grouped-steps I W Q p i c s A d, size H);
+    slots = omega (arith, grouped-steps I W Q p i c s A d, ap length H.steps);
     room = grouped-room I W Q p i c s A d;
     most = λ t. omega (arith, grouped-amounts I W Q p i c s A d, free-under I Q.schedule d t, (W.limits d).most);
   }
 
-  -- and with them made the arrays hold the staircase of what is placed then
-  pub holds-placed : {T' F' : List ℕ} {n' : ℕ} → Made (grouped_changes I Q.schedule i c s d) T F n T' F' n'
-      → HoldsStairs I (assign I Q i c s).schedule d T' F' n'
-  holds-placed m = record {
-    tick_slots = m.tick_slots;
-    free_slots = m.free_slots;
-    steps = m.steps ∙ ap (steps_after_all (grouped_changes I Q.schedule i c s d)) H.steps ∙ grouped-kept I W Q p i c s A d;
-  }
+  -- and with them made it is the staircase of what is placed then
+  pub holds-placed : {ss' : List Step} → Made (grouped_changes I Q.schedule i c s d) ss ss' → HoldsStairs I (assign I Q i c s).schedule d ss'
+  holds-placed m = record { steps = m.steps ∙ ap (steps_after_all (grouped_changes I Q.schedule i c s d)) H.steps ∙ grouped-kept I W Q p i c s A d }

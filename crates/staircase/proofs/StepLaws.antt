@@ -1,272 +1,318 @@
--- The steps of two arrays after a change.
+-- The steps after a change.
 use Prim.Native.Nat.{ℕ, zero, suc, ◌+◌, ◌-◌, ◌≤◌, ◌<◌}
-use mathlib.Core.Bool.{Bool, true, false, cond, not}
-use mathlib.Core.List.{List, ◌∷◌}
-use mathlib.Core.Path.{◌≡◌, refl, sym, ◌∙◌}
+use mathlib.Core.Bool.{Bool, true, false, cond}
+use mathlib.Core.List.{List, [], ◌∷◌, ◌++◌, map}
+use mathlib.Core.Path.{◌≡◌, refl, sym, ◌∙◌, ap}
+use Rattle.std.specs.Prelude.{◌≢◌}
 use native.Mathlib.Omega.{arith}
 use lib.Dec.{ltb, eqb}
-use lib.ListN.{get_or}
-use borrow.Author.Tests.{ltb-true, lt-ltb, le-ltb, eqb-true, eqb-false, eq-eqb, ne_eqb}
-use Rattle.rules.specs.Changes.{Change}
-use Rattle.rules.specs.Staircase.{free_by, steps_shifted, step_if_new, steps_behind, steps_after}
-use Rattle.staircase.specs.Slots.{max_free, Room, shifted_by, same, Mapped, Removed, Inserted}
-use Rattle.staircase.specs.Steps.{steps_on, steps_from, Stands, Fits, Position, is_step}
+use lib.ListN.{length, get_or, take, drop}
+use borrow.Author.Tests.{lt-ltb, le-ltb, eq-eqb, ne_eqb}
+use borrow.Rule.Slice.PartMut.{post_of}
+use Rattle.std.specs.List.{refill, insert, remove}
+use Rattle.std.proofs.lemmas.List.{map-append, take-map, drop-map, drop_more, take_rest, take_at, drop_at, take_all, get_or-drop, get_or-take, get_or_append_left, get_or-append-add, get_or_at, drop-drop, length-take-le, length-drop, length-append, length-map}
 use Rattle.rules.proofs.Tests.{split}
+use Rattle.rules.specs.Changes.{Change}
+use Rattle.rules.specs.Staircase.{Step as Pair, step_at, free_by, steps_shifted, step_if_new, steps_behind, steps_after}
+use Rattle.staircase.specs.declared.Step.{Step}
+use Rattle.staircase.specs.Steps.{as_step, as_steps, no_step, with_change, change_by, Ascending, Fits, Fit, Position, max_free}
+use Rattle.staircase.proofs.ReadLaws.{step-is, tick-is, free-is}
 
--- ---- up and down
+-- ---- the rules' steps, in front of the change's tick and from there on
 
--- a change is so much more, or so much less
-pub by-shift : (b : Bool) (m up down v : ℕ) → up ≡ cond (not b) m 0 → down ≡ cond b m 0 → shifted_by up down v ≡ cond b (v - m) (v + m)
-by-shift true m up down v e f = omega arith
-by-shift false m up down v e f = omega arith
+module _ (x : Change) where
+  -- the amount free just before step p of ss, where `v` is free before the first
+  before : ℕ → List Pair → ℕ → ℕ
+  before v ss zero = v
+  before v ss (suc p) = (step_at ss p).free
 
--- ---- the new steps
+  before-next : (v : ℕ) (s : Pair) (ss : List Pair) (p : ℕ) → before s.free ss p ≡ before v (s ∷ ss) (suc p)
+  unfolding before
+  before-next v s ss zero = refl
+  before-next v s ss (suc p) = refl
 
-module _ (T F T' F' : List ℕ) (x : Change) where
-  -- places a on are places b on, changed
-  pub shifted-steps : (a b : ℕ → ℕ) → ((k : ℕ) → a (suc k) ≡ suc (a k)) → ((k : ℕ) → b (suc k) ≡ suc (b k)) → (m k : ℕ)
-      → ((i : ℕ) → k ≤ i → i < k + m → get_or T' (a i) 0 ≡ get_or T (b i) 0) → ((i : ℕ) → k ≤ i → i < k + m → get_or F' (a i) 0 ≡ free_by x (get_or F (b i) 0))
-      → steps_on T' F' (a k) m ≡ steps_shifted x (steps_on T F (b k) m)
-  unfolding steps_on steps_shifted
-  shifted-steps a b p q zero k t f = refl
-  shifted-steps a b p q (suc m) k t f =
-      let rest : steps_on T' F' (suc (a k)) m ≡ steps_shifted x (steps_on T F (suc (b k)) m) = rw (← p k, ← q k)
-      (shifted-steps a b p q m (suc k) (λ i l h. t i (omega arith) (omega arith)) (λ i l h. f i (omega arith) (omega arith))) in
-      λ j. record { tick = t k (omega arith) (omega arith) j; free = f k (omega arith) (omega arith) j } ∷ rest j
+  walk : (p v : ℕ) (ss : List Pair) → p ≤ length ss → ((k : ℕ) → k < p → (step_at ss k).tick < x.tick)
+      → steps_behind x v ss ≡ take p ss ++ steps_behind x (before v ss p) (drop p ss)
+  unfolding steps_behind before
+  walk zero v ss l h = refl
+  walk (suc p) v [] l h = absurd (omega arith)
+  walk (suc p) v (s ∷ ss) l h =
+      let rest : steps_behind x s.free ss ≡ take p ss ++ steps_behind x (before s.free ss p) (drop p ss) =
+      walk p s.free ss (omega arith) (λ k m. h (suc k) (omega arith)) in
+      rw (lt-ltb s.tick x.tick (h 0 (omega arith)), rest, before-next v s ss p)
 
-  -- behind steps that are before the change
-  walk : (d k r r' : ℕ) → ((i : ℕ) → k < i → i ≤ k + d → get_or T i 0 < x.tick)
-      → ((i : ℕ) → k < i → i ≤ k + d → get_or T' i 0 ≡ get_or T i 0) → ((i : ℕ) → k < i → i ≤ k + d → get_or F' i 0 ≡ get_or F i 0)
-      → steps_on T' F' (suc (k + d)) r' ≡ steps_behind x (get_or F (k + d) 0) (steps_on T F (suc (k + d)) r)
-      → steps_on T' F' (suc k) (d + r') ≡ steps_behind x (get_or F k 0) (steps_on T F (suc k) (d + r))
-  unfolding steps_on steps_behind
-  walk zero k r r' low t f base =
-      let e : k + 0 ≡ k = omega arith in
-      let u : 0 + r ≡ r = omega arith in
-      let v : 0 + r' ≡ r' = omega arith in
-      rw (u, v) (rw e at base)
-  walk (suc d) k r r' low t f base =
-      let e : suc k + d ≡ k + suc d = omega arith in
-      let u : suc d + r ≡ suc (d + r) = omega arith in
-      let v : suc d + r' ≡ suc (d + r') = omega arith in
-      let next : steps_on T' F' (suc (suc k + d)) r' ≡ steps_behind x (get_or F (suc k + d) 0) (steps_on T F (suc (suc k + d)) r) = rw e base in
-      let rest : steps_on T' F' (suc (suc k)) (d + r') ≡ steps_behind x (get_or F (suc k) 0) (steps_on T F (suc (suc k)) (d + r)) = walk d (suc k) r r'
-      (λ i l m. low i (omega arith) (omega arith)) (λ i l m. t i (omega arith) (omega arith)) (λ i l m. f i (omega arith) (omega arith)) next in
-      rw (u, v, lt-ltb (get_or T (suc k) 0) x.tick (low (suc k) (omega arith) (omega arith)))
-      (λ j. record { tick = t (suc k) (omega arith) (omega arith) j; free = f (suc k) (omega arith) (omega arith) j } ∷ rest j)
-
-  pub joined : (p n r' n' : ℕ) → 0 < p → p ≤ n → n' ≡ p + r' → ((i : ℕ) → i < p → get_or T i 0 < x.tick)
-      → ((i : ℕ) → i < p → get_or T' i 0 ≡ get_or T i 0) → ((i : ℕ) → i < p → get_or F' i 0 ≡ get_or F i 0)
-      → steps_on T' F' p r' ≡ steps_behind x (get_or F (p - 1) 0) (steps_on T F p (n - p)) → steps_on T' F' 0 n' ≡ steps_after x (steps_on T F 0 n)
-  unfolding steps_on steps_after
-  joined zero n r' n' h l e low t f base = absurd (omega arith)
-  joined (suc d) n r' n' h l e low t f base =
-      let r : ℕ = n - suc d in
-      let u : n ≡ suc (d + (n - suc d)) = omega arith in
-      let v : n' ≡ suc (d + r') = omega arith in
-      let w : suc d - 1 ≡ 0 + d = omega arith in
-      let z : 0 + d ≡ d = omega arith in
-      let b : steps_on T' F' (suc (0 + d)) r' ≡ steps_behind x (get_or F (0 + d) 0) (steps_on T F (suc (0 + d)) (n - suc d)) = rw z
-      (let y : suc d - 1 ≡ d = omega arith in rw y at base) in
-      let rest : steps_on T' F' 1 (d + r') ≡ steps_behind x (get_or F 0 0) (steps_on T F 1 (d + (n - suc d))) =
-      walk d 0 (n - suc d) r' (λ i k m. low i (omega arith)) (λ i k m. t i (omega arith)) (λ i k m. f i (omega arith)) b in
-      let q : eqb x.tick 0 ≡ false = ne_eqb x.tick 0 (λ y. omega (arith, low 0 (omega arith))) in
-      by_count n n' (d + (n - suc d)) (d + r') u v q rest
+  -- the steps before the change's tick stay
+  pub front : (p : ℕ) (xs : List Pair) → 0 < p → p ≤ length xs → ((k : ℕ) → k < p → (step_at xs k).tick < x.tick)
+      → steps_after x xs ≡ take p xs ++ steps_behind x (step_at xs (p - 1)).free (drop p xs)
+  unfolding steps_after before
+  front zero xs h l low = absurd (omega arith)
+  front (suc p) [] h l low = absurd (omega arith)
+  front (suc p) (s ∷ ss) h l low =
+      let q : eqb x.tick 0 ≡ false = ne_eqb x.tick 0 (λ e. omega (arith, low 0 (omega arith))) in
+      let rest : steps_behind x s.free ss ≡ take p ss ++ steps_behind x (before s.free ss p) (drop p ss) =
+      walk p s.free ss (omega arith) (λ k m. low (suc k) (omega arith)) in
+      let e : suc p - 1 ≡ p = omega arith in
+      rw (q, rest, e, before-last s ss p)
     where
-      by_count : (n n' a b : ℕ) → n ≡ suc a → n' ≡ suc b → eqb x.tick 0 ≡ false
-          → steps_on T' F' 1 b ≡ steps_behind x (get_or F 0 0) (steps_on T F 1 a) → steps_on T' F' 0 n' ≡ steps_after x (steps_on T F 0 n)
-      by_count n n' a b u v q rest = rw (u, v, q) (λ j. record { tick = t 0 (omega arith) j; free = f 0 (omega arith) j } ∷ rest j)
+      before-last : (s : Pair) (ss : List Pair) (p : ℕ) → before s.free ss p ≡ (step_at (s ∷ ss) p).free
+      before-last s ss zero = refl
+      before-last s ss (suc p) = refl
 
--- a change at tick 0 changes every step
-after_first : (T F : List ℕ) (x : Change) (n : ℕ) → x.tick ≡ 0 → steps_after x (steps_on T F 0 n) ≡ steps_shifted x (steps_on T F 0 n)
-unfolding steps_on steps_after steps_shifted
-after_first T F x zero e = refl
-after_first T F x (suc n) e = rw (eq-eqb x.tick 0 e)
+  -- at tick 0 every step changes
+  pub all_change : (xs : List Pair) → x.tick ≡ 0 → steps_after x xs ≡ steps_shifted x xs
+  unfolding steps_after steps_shifted
+  all_change [] e = refl
+  all_change (s ∷ ss) e = rw (eq-eqb x.tick 0 e)
 
-module _ (T F : List ℕ) (x : Change) (p before : ℕ) where
-  -- where no step stands at the change's tick
-  pub behind-new : (r : ℕ) → (0 < r → x.tick < get_or T p 0)
-      → steps_behind x before (steps_on T F p r) ≡ step_if_new before (record { tick = x.tick; free = free_by x before }) (steps_shifted x (steps_on T F p r))
-  unfolding steps_on steps_behind steps_shifted
-  behind-new zero l = refl
-  behind-new (suc r) l =
-      let h : x.tick < get_or T p 0 = l (omega arith) in
-      rw (le-ltb (get_or T p 0) x.tick (omega arith), ne_eqb (get_or T p 0) x.tick (λ e. omega arith))
+  -- where a step stands at the tick, and where none does
+  behind-at : (v : ℕ) (s : Pair) (ss : List Pair) → s.tick ≡ x.tick
+      → steps_behind x v (s ∷ ss) ≡ step_if_new v (record { tick = s.tick; free = free_by x s.free }) (steps_shifted x ss)
+  unfolding steps_behind
+  behind-at v s ss e = rw (le-ltb s.tick x.tick (omega arith), eq-eqb s.tick x.tick e)
 
-  -- where one does
-  pub behind-at : (r : ℕ) → get_or T p 0 ≡ x.tick
-      → steps_behind x before (steps_on T F p (suc r))
-      ≡ step_if_new before (record { tick = get_or T p 0; free = free_by x (get_or F p 0) }) (steps_shifted x (steps_on T F (suc p) r))
-  unfolding steps_on steps_behind steps_shifted
-  behind-at r e = rw (le-ltb (get_or T p 0) x.tick (omega arith), eq-eqb (get_or T p 0) x.tick e)
+  behind-new : (v : ℕ) (ss : List Pair) → (0 < length ss → x.tick < (step_at ss 0).tick)
+      → steps_behind x v ss ≡ step_if_new v (record { tick = x.tick; free = free_by x v }) (steps_shifted x ss)
+  unfolding steps_behind steps_shifted
+  behind-new v [] l = refl
+  behind-new v (s ∷ ss) l =
+      let h : x.tick < s.tick = l (omega arith) in
+      rw (le-ltb s.tick x.tick (omega arith), ne_eqb s.tick x.tick (λ e. omega arith))
 
--- the same with its two outcomes
-module _ (T F : List ℕ) (x : Change) (p before r : ℕ) where
-  at-differs : get_or T p 0 ≡ x.tick → eqb before (free_by x (get_or F p 0)) ≡ false
-      → steps_behind x before (steps_on T F p (suc r)) ≡ steps_shifted x (steps_on T F p (suc r))
-  unfolding steps_on steps_shifted
-  at-differs e d = behind-at T F x p before r e ∙ rw d
+-- a change adds a step at most
+count_if : (v : ℕ) (s : Pair) (ss : List Pair) → length (step_if_new v s ss) ≤ length ss + 1
+count_if v s ss = split (eqb v s.free) (λ e. rw e (omega arith)) (λ e. rw e (omega arith))
 
-  at-equal : get_or T p 0 ≡ x.tick → eqb before (free_by x (get_or F p 0)) ≡ true
-      → steps_behind x before (steps_on T F p (suc r)) ≡ steps_shifted x (steps_on T F (suc p) r)
-  at-equal e d = behind-at T F x p before r e ∙ rw d
+count_shifted : (x : Change) (ss : List Pair) → length (steps_shifted x ss) ≡ length ss
+unfolding steps_shifted
+count_shifted x [] = refl
+count_shifted x (s ∷ ss) = ap suc (count_shifted x ss)
 
-  new-differs : (0 < r → x.tick < get_or T p 0) → eqb before (free_by x before) ≡ false
-      → steps_behind x before (steps_on T F p r) ≡ record { tick = x.tick; free = free_by x before } ∷ steps_shifted x (steps_on T F p r)
-  new-differs l d = behind-new T F x p before r l ∙ rw d
+count_behind : (x : Change) (v : ℕ) (ss : List Pair) → length (steps_behind x v ss) ≤ length ss + 1
+unfolding steps_behind steps_shifted
+count_behind x v [] = count_if v (record { tick = x.tick; free = free_by x v }) []
+count_behind x v (s ∷ ss) = split (ltb s.tick x.tick)
+    (λ e. rw e (omega (arith, count_behind x s.free ss)))
+    (λ e. split (eqb s.tick x.tick)
+    (λ d. rw (e, d) (omega (arith, count_if v (record { tick = s.tick; free = free_by x s.free }) (steps_shifted x ss), count_shifted x ss)))
+    (λ d. rw (e, d) (omega (arith, count_if v (record { tick = x.tick; free = free_by x v }) (steps_shifted x (s ∷ ss)), count_shifted x (s ∷ ss)))))
 
-  new-equal : (0 < r → x.tick < get_or T p 0) → eqb before (free_by x before) ≡ true → steps_behind x before (steps_on T F p r) ≡ steps_shifted x (steps_on T F p r)
-  new-equal l d = behind-new T F x p before r l ∙ rw d
+pub after_count : (x : Change) (ss : List Pair) → length (steps_after x ss) ≤ length ss + 1
+unfolding steps_after
+after_count x [] = omega arith
+after_count x (s ∷ ss) = split (eqb x.tick 0)
+    (λ e. rw e (omega (arith, count_shifted x (s ∷ ss))))
+    (λ e. rw e (omega (arith, count_behind x s.free ss)))
 
--- ---- the cases of a change
+-- ---- the steps that the code makes
 
-up-most : (b : Bool) (m : ℕ) → cond (not b) m 0 ≤ m
-up-most true m = omega arith
-up-most false m = omega arith
+-- a part lent and changed, put back
+pub put_back : (p : ℕ) (xs ys : List Step) → p ≤ length xs → length ys ≡ length xs - p
+    → refill (length xs) xs (take p xs ++ (ys ++ post_of p (length xs - p) xs)) ≡ take p xs ++ ys
+put_back p xs ys l e =
+    let none : post_of p (length xs - p) xs ≡ [] = drop_none (length xs - p) (drop p xs) (omega (arith, length-drop p xs)) in
+    let size : length (take p xs ++ ys) ≡ length xs = omega (arith, length-append (take p xs) ys, length-take-le p xs l) in
+    rw (none, append-nil ys, size, drop_none (length xs) xs (omega arith), append-nil (take p xs ++ ys)) (take_all (length xs) (take p xs ++ ys) (omega arith))
+  where
+    drop_none : (n : ℕ) (zs : List Step) → length zs ≤ n → drop n zs ≡ []
+    drop_none zero [] h = refl
+    drop_none zero (z ∷ zs) h = absurd (omega arith)
+    drop_none (suc n) [] h = refl
+    drop_none (suc n) (z ∷ zs) h = drop_none n zs (omega arith)
 
-down-enough : (b : Bool) (m v : ℕ) → (b ≡ true → m ≤ v) → cond b m 0 ≤ v + cond (not b) m 0
-down-enough true m v h = omega (arith, h refl)
-down-enough false m v h = omega arith
+    append-nil : (zs : List Step) → zs ++ [] ≡ zs
+    append-nil [] = refl
+    append-nil (z ∷ zs) = ap (λ ws. z ∷ ws) (append-nil zs)
 
-is-step-true : (T : List ℕ) (n p tick : ℕ) → is_step T n p tick ≡ true → (p < n) × (get_or T p 0 ≡ tick)
-is-step-true T n p tick e = split (ltb p n)
-    (λ b. let d : eqb (get_or T p 0) tick ≡ true = rw b at e in (ltb-true p n b, eqb-true _ _ d))
-    (λ b. let d : false ≡ true = rw b at e in let z : ◌≡◌ {A = ℕ} 0 1 = cc in absurd (omega arith))
+shifted : (x : Change) (xs : List Step) → as_steps (map (with_change x.amount x.rises) xs) ≡ steps_shifted x (as_steps xs)
+unfolding steps_shifted
+shifted x [] = refl
+shifted x (s ∷ ss) = ap (λ zs. record { tick = s.tick; free = free_by x s.free } ∷ zs) (shifted x ss)
 
-is-step-false : (T : List ℕ) (n p tick : ℕ) → is_step T n p tick ≡ false → p < n → get_or T p 0 ≡ tick → ⊥
-is-step-false T n p tick e l = let d : eqb (get_or T p 0) tick ≡ false = rw (lt-ltb p n l) at e in eqb-false _ _ d
+-- a step that a loop has still to change
+pub unchanged : (g : Step → Step) (xs : List Step) {ys : List Step} (i : ℕ) → ys ≡ map g (take i xs) ++ drop i xs → i ≤ length xs
+    → get_or ys i no_step ≡ get_or xs i no_step
+unchanged g xs i e l =
+    let n : length (map g (take i xs)) ≡ i = length-map (take i xs) g ∙ length-take-le i xs l in
+    let z : length (map g (take i xs)) + 0 ≡ i = omega (arith, n) in
+    let y : i + 0 ≡ i = omega arith in
+    rw e (rw z at (get_or-append-add (map g (take i xs)) (drop i xs) 0 no_step) ∙ get_or-drop i xs 0 no_step ∙ ap (λ k. get_or xs k no_step) y)
 
--- the change x, as `up` more and `down` less, at position p
-pub record Here (T F : List ℕ) (n : ℕ) (x : Change) (up down p : ℕ) : Type 0 where
-  pub stands : Stands T F n
-  pub fits : Fits T F n x
-  pub is_up : up ≡ cond (not x.rises) x.amount 0
-  pub is_down : down ≡ cond x.rises x.amount 0
-  pub position : Position T n x.tick p
+-- those from p on changed
+abbrev pub changed_from : Change → ℕ → List Step → List Step
+changed_from x p xs = take p xs ++ map (with_change x.amount x.rises) (drop p xs)
 
-pub here : {T F : List ℕ} {n : ℕ} {x : Change} {up down p : ℕ} → Stands T F n → Fits T F n x → up ≡ cond (not x.rises) x.amount 0
-    → down ≡ cond x.rises x.amount 0 → Position T n x.tick p → Here T F n x up down p
-here s f u d p = record { stands = s; fits = f; is_up = u; is_down = d; position = p }
+pub changed_as : (x : Change) (p : ℕ) (xs : List Step) → as_steps (changed_from x p xs) ≡ take p (as_steps xs) ++ steps_shifted x (drop p (as_steps xs))
+changed_as x p xs = rw (map-append as_step (take p xs) (map (with_change x.amount x.rises) (drop p xs)), take-map as_step p xs, drop-map as_step p xs, shifted x (drop p xs))
 
-module _ {T F : List ℕ} {n : ℕ} {x : Change} {up down p : ℕ} (H : Here T F n x up down p) where
-  abbrev S : Stands T F n
-  S = H.stands
+-- ---- the change x of the steps xs, with p behind the last step before its tick
 
-  abbrev P : Position T n x.tick p
-  P = H.position
+pub record Here (x : Change) (p : ℕ) (xs : List Step) : Type 0 where
+  pub one : 0 < length xs
+  pub ascending : Ascending (as_steps xs)
+  pub fits : Fits (as_steps xs) x
+  pub position : Position (as_steps xs) x.tick p
 
-  abbrev g : ℕ → ℕ
-  g = shifted_by up down
+pub here : (x : Change) (p : ℕ) (xs : List Step) {ss : List Pair} → as_steps xs ≡ ss → 0 < length xs → Ascending ss → Fits ss x → Position ss x.tick p → Here x p xs
+here x p xs e l u f q = record { one = l; ascending = rw (← e) at u; fits = rw (← e) at f; position = rw (← e) at q }
 
-  g-is : (v : ℕ) → g v ≡ free_by x v
-  g-is v = by-shift x.rises x.amount up down v H.is_up H.is_down
+module _ {x : Change} {p : ℕ} {xs : List Step} (H : Here x p xs) where
+  abbrev ss : List Pair
+  ss = as_steps xs
 
-  low_by : (d i : ℕ) → suc i + d ≡ p → get_or T i 0 < x.tick
-  low_by zero i e = P.before i (omega arith)
-  low_by (suc d) i e = omega (arith, S.ascending i (omega (arith, P.within)), low_by d (suc i) (omega arith))
+  abbrev at : Position ss x.tick p
+  at = H.position
 
-  low : (i : ℕ) → i < p → get_or T i 0 < x.tick
+  size : length ss ≡ length xs
+  size = length-map xs as_step
+
+  pub within : p ≤ length xs
+  within = omega (arith, at.within, size)
+
+  low_by : (d i : ℕ) → suc i + d ≡ p → (step_at ss i).tick < x.tick
+  low_by zero i e = at.before i (omega arith)
+  low_by (suc d) i e = omega (arith, H.ascending.up i (omega (arith, at.within)), low_by d (suc i) (omega arith))
+
+  low : (i : ℕ) → i < p → (step_at ss i).tick < x.tick
   low i l = low_by (p - suc i) i (omega arith)
 
   -- what the arithmetic asks
-  level-most : (k : ℕ) → k < n → get_or F k 0 + up ≤ max_free
-  level-most k l = omega (arith, H.fits.most k l, up-most x.rises x.amount)
-
-  level-enough : (k : ℕ) → k < n → (suc k < n → x.tick < get_or T (suc k) 0) → down ≤ get_or F k 0 + up
-  level-enough k l h = rw (H.is_up, H.is_down) (down-enough x.rises x.amount (get_or F k 0) (λ e. H.fits.enough e k l h))
-
-  pub room : Room up down p n F
-  room = record {
-    most = λ k l m. level-most k m;
-    enough = λ k l m. level-enough k m (λ h. omega (arith, P.after k l m, S.ascending k h));
+  pub fit : Fit x.amount x.rises (drop p xs)
+  fit = record {
+    most = λ k l. rw (get_or-drop p xs k no_step) (omega (arith, H.fits.most (p + k) (omega (arith, length-drop p xs, size)), free-is xs (p + k)));
+    enough = λ e k l. rw (get_or-drop p xs k no_step)
+        (let m : p + k < length ss = omega (arith, length-drop p xs, size) in
+        omega (arith, free-is xs (p + k), H.fits.enough e (p + k) m (λ h. omega (arith, at.after (p + k) (omega arith) m, H.ascending.up (p + k) h))));
   }
 
-  pub room-first : p ≡ 0 → Room up down 0 n F
-  room-first e = rw e at room
+  pub fit_lent : {now : List Step} → now ≡ xs → Fit x.amount x.rises (take (length now - p) (drop p now))
+  fit_lent e = rw (e, take_rest xs p) fit
 
-  -- where a step stands at the tick, and where none does
-  step-here : {b : Bool} → b ≡ is_step T n p x.tick → b ≡ true → (p < n) × (get_or T p 0 ≡ x.tick)
-  step-here q e = is-step-true T n p x.tick (sym q ∙ e)
-
-  between : {b : Bool} → b ≡ is_step T n p x.tick → b ≡ false → p < n → x.tick < get_or T p 0
-  between q e l =
-      let d = is-step-false T n p x.tick (sym q ∙ e) l in
-      omega (arith, P.after p (omega arith) l, d)
-
-  pub before-room : 0 < p → {b : Bool} → b ≡ is_step T n p x.tick → b ≡ false → (get_or F (p - 1) 0 + up ≤ max_free) × (down ≤ get_or F (p - 1) 0 + up)
-  before-room h q e =
-      let z : suc (p - 1) ≡ p = omega arith in
-      (level-most (p - 1) (omega (arith, P.within)), level-enough (p - 1) (omega (arith, P.within)) (rw z (between q e)))
-
-  pub here-room : {b : Bool} → b ≡ is_step T n p x.tick → b ≡ true → (p < n) × (get_or F p 0 + up ≤ max_free) × (down ≤ get_or F p 0 + up)
-  here-room q e =
-      let l : p < n = (step-here q e).0 in
-      (l, room.most p (omega arith) l, room.enough p (omega arith) l)
-
-  in_place : (F' : List ℕ) → Mapped g p n F F' → steps_on T F' p (n - p) ≡ steps_shifted x (steps_on T F p (n - p))
-  in_place F' m = shifted-steps T F T F' x (λ i. i) (λ i. i) (λ k. refl) (λ k. refl) (n - p) p (λ i l h. refl)
-      (λ i l h. m.changed i l (omega (arith, P.within)) ∙ g-is (get_or F i 0))
+  -- what a loan of the steps from p on leaves, with all of them changed
+  pub lent : {now new : List Step} → now ≡ xs → new ≡ map (with_change x.amount x.rises) (take (length now - p) (drop p now))
+      → refill (length xs) xs (take p now ++ (new ++ post_of p (length now - p) now)) ≡ changed_from x p xs
+  lent {now} {new} e f =
+      let d : new ≡ map (with_change x.amount x.rises) (drop p xs) = rw (e, take_rest xs p) at f in
+      rw (e, d) (put_back p xs (map (with_change x.amount x.rises) (drop p xs)) within
+      (length-map (drop p xs) (with_change x.amount x.rises) ∙ length-drop p xs))
 
   -- at tick 0
-  pub at_first : p ≡ 0 → (F' : List ℕ) → Mapped g 0 n F F' → steps_from T F' n ≡ steps_after x (steps_from T F n)
-  at_first e F' m =
-      let z : x.tick ≡ 0 = omega (arith, P.after 0 (omega arith) S.one, S.first) in
-      first-shifted n z (shifted-steps T F T F' x (λ i. i) (λ i. i) (λ k. refl) (λ k. refl) n 0 (λ i l h. refl)
-      (λ i l h. m.changed i l (omega arith) ∙ g-is (get_or F i 0)))
-    where
-      first-shifted : (n : ℕ) → x.tick ≡ 0 → steps_on T F' 0 n ≡ steps_shifted x (steps_on T F 0 n) → steps_on T F' 0 n ≡ steps_after x (steps_on T F 0 n)
-      first-shifted n z h = h ∙ sym (after_first T F x n z)
+  pub from_first : p ≡ 0 → as_steps (changed_from x p xs) ≡ steps_after x ss
+  from_first e =
+      let z : x.tick ≡ 0 = omega (arith, at.after 0 (omega arith) (omega (arith, size, H.one)), H.ascending.first) in
+      rw (e, changed_as x 0 xs, all_change x ss z)
 
-  module _ (pos : 0 < p) where
-    abbrev before : ℕ
-    before = get_or F (p - 1) 0
+  abbrev T : List Step
+  T = changed_from x p xs
 
-    pub at-kept : {b : Bool} → b ≡ is_step T n p x.tick → b ≡ true → (g (get_or F p 0) ≡ before → ⊥) → (F' : List ℕ) → Mapped g p n F F'
-        → steps_from T F' n ≡ steps_after x (steps_from T F n)
-    at-kept a e d F' m =
-        let i = step-here a e in
-        let l : p < n = i.0 in
-        let z : n - p ≡ suc (n - suc p) = omega arith in
-        let q : eqb before (free_by x (get_or F p 0)) ≡ false = ne_eqb before (free_by x (get_or F p 0)) (λ y. d (g-is (get_or F p 0) ∙ sym y)) in
-        let right : steps_behind x before (steps_on T F p (n - p)) ≡ steps_shifted x (steps_on T F p (n - p)) = rw z
-        (at-differs T F x p before (n - suc p) i.1 q) in
-        joined T F T F' x p n (n - p) n pos P.within (omega arith) low (λ k h. refl) m.below (in_place F' m ∙ sym right)
+  g : Step → Step
+  g = with_change x.amount x.rises
 
-    pub between-kept : {b : Bool} → b ≡ is_step T n p x.tick → b ≡ false → g before ≡ before → (F' : List ℕ) → Mapped g p n F F'
-        → steps_from T F' n ≡ steps_after x (steps_from T F n)
-    between-kept a e d F' m =
-        let q : eqb before (free_by x before) ≡ true = eq-eqb before (free_by x before) (sym d ∙ g-is before) in
-        let w : p ≤ n = P.within in
-        let right : steps_behind x before (steps_on T F p (n - p)) ≡ steps_shifted x (steps_on T F p (n - p)) =
-        new-equal T F x p before (n - p) (λ h. between a e (omega arith)) q in
-        joined T F T F' x p n (n - p) n pos P.within (omega arith) low (λ k h. refl) m.below (in_place F' m ∙ sym right)
+  cut : length (take p xs) ≡ p
+  cut = length-take-le p xs within
 
-    pub at-removed : {b : Bool} → b ≡ is_step T n p x.tick → b ≡ true → g (get_or F p 0) ≡ before → (T' F' : List ℕ) → Removed same p n T T'
-        → Removed g p n F F' → steps_from T' F' (n - 1) ≡ steps_after x (steps_from T F n)
-    at-removed a e d T' F' t m =
-        let i = step-here a e in
-        let l : p < n = i.0 in
-        let z : n - p ≡ suc (n - suc p) = omega arith in
-        let q : eqb before (free_by x (get_or F p 0)) ≡ true = eq-eqb before (free_by x (get_or F p 0)) (sym d ∙ g-is (get_or F p 0)) in
-        let right : steps_behind x before (steps_on T F p (n - p)) ≡ steps_shifted x (steps_on T F (suc p) (n - suc p)) = rw z
-        (at-equal T F x p before (n - suc p) i.1 q) in
-        let left : steps_on T' F' p (n - suc p) ≡ steps_shifted x (steps_on T F (suc p) (n - suc p)) =
-        shifted-steps T F T' F' x (λ i. i) suc (λ k. refl) (λ k. refl) (n - suc p) p
-        (λ k h b. t.changed k h (omega arith)) (λ k h b. m.changed k h (omega arith) ∙ g-is (get_or F (suc k) 0)) in
-        joined T F T' F' x p n (n - suc p) (n - 1) pos P.within (omega arith) low t.below m.below (left ∙ sym right)
+  pub still : length T ≡ length xs
+  still = omega (
+    arith,
+    within,
+    length-append (take p xs) (map (with_change x.amount x.rises) (drop p xs)),
+    cut,
+    length-map (drop p xs) (with_change x.amount x.rises),
+    length-drop p xs,
+  )
 
-    pub between-inserted : {b : Bool} → b ≡ is_step T n p x.tick → b ≡ false → (g before ≡ before → ⊥) → (T' F' : List ℕ) → Inserted same x.tick p n T T'
-        → Inserted g (g before) p n F F' → steps_from T' F' (n + 1) ≡ steps_after x (steps_from T F n)
-    unfolding steps_on
-    between-inserted a e d T' F' t m =
-        let q : eqb before (free_by x before) ≡ false = ne_eqb before (free_by x before) (λ y. d (g-is before ∙ sym y)) in
-        let w : p ≤ n = P.within in
-        let right : steps_behind x before (steps_on T F p (n - p)) ≡ record { tick = x.tick; free = free_by x before } ∷ steps_shifted x (steps_on T F p (n - p)) =
-        new-differs T F x p before (n - p) (λ h. between a e (omega arith)) q in
-        let rest : steps_on T' F' (suc p) (n - p) ≡ steps_shifted x (steps_on T F p (n - p)) =
-        shifted-steps T F T' F' x suc (λ i. i) (λ k. refl) (λ k. refl) (n - p) p
-        (λ k h b. t.changed k h (omega arith)) (λ k h b. m.changed k h (omega arith) ∙ g-is (get_or F k 0)) in
-        let level : get_or F' p 0 ≡ free_by x before = m.here ∙ g-is before in
-        let left : steps_on T' F' p (suc (n - p)) ≡ record { tick = x.tick; free = free_by x before } ∷ steps_shifted x (steps_on T F p (n - p)) =
-        λ j. record { tick = t.here j; free = level j } ∷ rest j in
-        joined T F T' F' x p n (suc (n - p)) (n + 1) pos P.within (omega arith) low t.below m.below (left ∙ sym right)
+  head : take p T ≡ take p xs
+  head = take_at (take p xs) (map (with_change x.amount x.rises) (drop p xs)) p cut
+
+  tail : drop p T ≡ map (with_change x.amount x.rises) (drop p xs)
+  tail = drop_at (take p xs) (map (with_change x.amount x.rises) (drop p xs)) p cut
+
+  split-at : p < length xs → drop p xs ≡ get_or xs p no_step ∷ drop (p + 1) xs
+  split-at = drop_more xs p no_step
+
+  here_is : p < length xs → get_or T p no_step ≡ with_change x.amount x.rises (get_or xs p no_step)
+  here_is l = rw (split-at l) (get_or_at (take p xs) (with_change x.amount x.rises (get_or xs p no_step)) (map (with_change x.amount x.rises) (drop (p + 1) xs)) no_step p cut)
+
+  module _ (later : 0 < p) where
+    pub before_is : get_or T (p - 1) no_step ≡ get_or xs (p - 1) no_step
+    before_is = get_or_append_left (take p xs) (map (with_change x.amount x.rises) (drop p xs)) no_step (p - 1) (omega (arith, cut))
+        ∙ get_or-take p xs (p - 1) no_step (omega arith)
+
+    abbrev v : ℕ
+    v = (get_or xs (p - 1) no_step).free
+
+    all_after : steps_after x ss ≡ take p ss ++ steps_behind x v (drop p ss)
+    all_after = rw (← free-is xs (p - 1)) (front x p ss later at.within low)
+
+    -- where a step stands at the tick
+    module _ (q : (p < length T) × ((get_or T p no_step).tick ≡ x.tick)) where
+      pub stands : p < length xs
+      stands = omega (arith, q.0, still)
+
+      abbrev s : Step
+      s = get_or xs p no_step
+
+      abbrev R : List Step
+      R = drop (p + 1) xs
+
+      rest : drop p ss ≡ as_step s ∷ as_steps R
+      rest = drop-map as_step p xs ∙ ap as_steps (split-at stands)
+
+      e : s.tick ≡ x.tick
+      e = sym (ap (λ z. z.tick) (here_is stands)) ∙ q.1
+
+      pub at_equal : (get_or T p no_step).free ≡ (get_or T (p - 1) no_step).free → as_steps (remove T p) ≡ steps_after x ss
+      at_equal d =
+          let t : eqb v (free_by x s.free) ≡ true = eq-eqb v (free_by x s.free) (sym (ap (λ z. z.free) before_is) ∙ sym d ∙ ap (λ z. z.free) (here_is stands)) in
+          let gone : drop (suc p) T ≡ map (with_change x.amount x.rises) R =
+          let z : suc p ≡ p + 1 = omega arith in rw (z, ← drop-drop 1 p T, tail, split-at stands) in
+          rw (head, gone, map-append as_step (take p xs) (map (with_change x.amount x.rises) R), shifted x R, ← take-map as_step p xs)
+          (sym (all_after ∙ ap (λ zs. take p ss ++ steps_behind x v zs) rest ∙ ap (λ zs. take p ss ++ zs) (behind-at x v (as_step s) (as_steps R) e ∙ rw t refl)))
+
+      pub at_differs : ((get_or T p no_step).free ≡ (get_or T (p - 1) no_step).free → ⊥) → as_steps T ≡ steps_after x ss
+      unfolding steps_shifted
+      at_differs d =
+          let t : eqb v (free_by x s.free) ≡ false = ne_eqb v (free_by x s.free)
+          (λ y. d (ap (λ z. z.free) (here_is stands) ∙ sym y ∙ sym (ap (λ z. z.free) before_is))) in
+          changed_as x p xs ∙ sym (all_after ∙ ap (λ zs. take p ss ++ zs)
+          (ap (steps_behind x v) rest ∙ behind-at x v (as_step s) (as_steps R) e ∙ rw t refl ∙ sym (ap (steps_shifted x) rest)))
+
+    -- where none does
+    module _ (n : p < length T → (get_or T p no_step).tick ≢ x.tick) where
+      differs : p < length xs → (get_or xs p no_step).tick ≢ x.tick
+      differs l f = n (omega (arith, still)) (ap (λ z. z.tick) (here_is l) ∙ f)
+
+      past : p < length ss → x.tick < (step_at ss p).tick
+      past l = let d = differs (omega (arith, size)) in omega (arith, at.after p (omega arith) l, d, tick-is xs p)
+
+      -- what the arithmetic asks
+      pub new_most : v + x.amount ≤ max_free
+      new_most = omega (arith, H.fits.most (p - 1) (omega (arith, at.within)), free-is xs (p - 1))
+
+      pub new_enough : x.rises ≡ true → x.amount ≤ v
+      new_enough r =
+          let z : suc (p - 1) ≡ p = omega arith in
+          omega (arith, H.fits.enough r (p - 1) (omega (arith, at.within)) (rw z past), free-is xs (p - 1))
+
+      behind : steps_behind x v (drop p ss) ≡ step_if_new v (record { tick = x.tick; free = free_by x v }) (steps_shifted x (drop p ss))
+      behind = behind-new x v (drop p ss) (λ l. first-past (past (omega (arith, length-drop p ss))))
+        where
+          first-past : x.tick < (step_at ss p).tick → x.tick < (step_at (drop p ss) 0).tick
+          first-past h = let z : p + 0 ≡ p = omega arith in rw (get_or-drop p ss 0 (record { tick = 0; free = 0 }), z) h
+
+      pub new_equal : free_by x v ≡ v → as_steps T ≡ steps_after x ss
+      new_equal d =
+          let t : eqb v (free_by x v) ≡ true = eq-eqb v (free_by x v) (sym d) in
+          changed_as x p xs ∙ sym (all_after ∙ ap (λ zs. take p ss ++ zs) (behind ∙ rw t refl))
+
+      pub new_differs : (free_by x v ≡ v → ⊥) → as_steps (insert T p (record { tick = x.tick; free = free_by x v })) ≡ steps_after x ss
+      new_differs d =
+          let t : eqb v (free_by x v) ≡ false = ne_eqb v (free_by x v) (λ y. d (sym y)) in
+          rw (
+            head,
+            tail,
+            map-append as_step (take p xs) (record { tick = x.tick; free = free_by x v } ∷ map (with_change x.amount x.rises) (drop p xs)),
+            shifted x (drop p xs),
+            ← take-map as_step p xs,
+            ← drop-map as_step p xs,
+          )
+          (sym (all_after ∙ ap (λ zs. take p ss ++ zs) (behind ∙ rw t refl)))

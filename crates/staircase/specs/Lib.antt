@@ -1,4 +1,3 @@
--- A memory's staircase in two arrays and a count, in the order to read.
-pub mod Slots
+-- A memory's staircase as the code has it, in the order to read.
 pub mod Steps
 pub mod Stairs

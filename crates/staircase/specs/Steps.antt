@@ -1,26 +1,25 @@
--- The steps that two arrays and a count stand for, and what the code asks of them.
-use Rattle.std.specs.Prelude.{ℕ, zero, suc, ◌+◌, ◌≤◌, ◌<◌, Bool, true, false, cond, List, [], ◌∷◌, ◌≡◌, ltb, eqb, get_or}
+-- The steps of a staircase as the rules have them, and what the code asks of them.
+use Rattle.std.specs.Prelude.{ℕ, suc, ◌+◌, ◌*◌, ◌≤◌, ◌<◌, Bool, true, List, [], ◌∷◌, ◌≡◌, map, length, get_or, Some, None}
+use Rattle.std.specs.Prelude as Std
 use Rattle.std.proofs.Math.Option.{Option, none, some}
+use Rattle.rules.specs.Limits.{max_pairs, max_files, memory_limits, file_sizes, work_sizes}
 use Rattle.rules.specs.Changes.{Change}
-use Rattle.rules.specs.Staircase.{Step}
-use Rattle.staircase.specs.declared.Free.{Free}
-use Rattle.staircase.specs.declared.Free.TheVariants.{Nowhere, From}
-use Rattle.staircase.specs.Slots.{Sized, max_free}
+use Rattle.rules.specs.Staircase.{Step as Pair, step_at, free_by}
+use Rattle.staircase.specs.declared.Step.{Step}
 
-abbrev pub step_of : List ℕ → List ℕ → ℕ → Step
-step_of ticks free k = record { tick = get_or ticks k 0; free = get_or free k 0 }
+-- the code's step, as the rules have it
+abbrev pub as_step : Step → Pair
+as_step s = record { tick = s.tick; free = s.free }
 
--- m steps from the k-th on
-unfoldable pub steps_on : List ℕ → List ℕ → ℕ → ℕ → List Step
-steps_on ticks free k zero = []
-steps_on ticks free k (suc m) = step_of ticks free k ∷ steps_on ticks free (suc k) m
+abbrev pub as_steps : List Step → List Pair
+as_steps xs = map as_step xs
 
--- the first n steps
-abbrev pub steps_from : List ℕ → List ℕ → ℕ → List Step
-steps_from ticks free n = steps_on ticks free 0 n
+-- what is read past the last step
+abbrev pub no_step : Step
+no_step = record { tick = 0; free = 0 }
 
 -- the staircase of an empty plan
-abbrev pub start_steps : ℕ → List Step
+abbrev pub start_steps : ℕ → List Pair
 start_steps limit = record { tick = 0; free = limit } ∷ []
 
 -- ---- a change
@@ -28,41 +27,39 @@ start_steps limit = record { tick = 0; free = limit } ∷ []
 abbrev pub change_by : ℕ → ℕ → Bool → Change
 change_by tick amount rises = record { tick = tick; rises = rises; amount = amount }
 
--- both arrays whole, a first step at tick 0, ascending
-pub record Stands (ticks free : List ℕ) (n : ℕ) : Type 0 where
-  pub tick_slots : Sized ticks
-  pub free_slots : Sized free
-  pub one : 0 < n
-  pub first : get_or ticks 0 0 ≡ 0
-  pub ascending : (k : ℕ) → suc k < n → get_or ticks k 0 < get_or ticks (suc k) 0
+-- a step after it
+abbrev pub with_change : ℕ → Bool → Step → Step
+with_change amount rises s = record { tick = s.tick; free = free_by (change_by 0 amount rises) s.free }
+
+-- a limit and what the changes of one placing come to at most: no free amount is above it while they are made
+abbrev pub max_free : ℕ
+max_free = memory_limits.most + 2 * (max_files * file_sizes.most + work_sizes.most)
+
+-- a first step at tick 0, ascending
+pub record Ascending (xs : List Pair) : Type 0 where
+  pub first : (step_at xs 0).tick ≡ 0
+  pub up : (k : ℕ) → suc k < length xs → (step_at xs k).tick < (step_at xs (suc k)).tick
 
 -- a change keeps every amount in range; a rise takes no more than a step has that goes on past its tick
-pub record Fits (ticks free : List ℕ) (n : ℕ) (x : Change) : Type 0 where
-  pub most : (k : ℕ) → k < n → get_or free k 0 + x.amount ≤ max_free
-  pub enough : x.rises ≡ true → (k : ℕ) → k < n → (suc k < n → x.tick < get_or ticks (suc k) 0) → x.amount ≤ get_or free k 0
+pub record Fits (xs : List Pair) (x : Change) : Type 0 where
+  pub most : (k : ℕ) → k < length xs → (step_at xs k).free + x.amount ≤ max_free
+  pub enough : x.rises ≡ true → (k : ℕ) → k < length xs → (suc k < length xs → x.tick < (step_at xs (suc k)).tick)
+      → x.amount ≤ (step_at xs k).free
 
--- p is behind the last of the first n ticks that is before `tick`
-pub record Position (ticks : List ℕ) (n tick p : ℕ) : Type 0 where
-  pub within : p ≤ n
-  pub before : (k : ℕ) → suc k ≡ p → get_or ticks k 0 < tick
-  pub after : (k : ℕ) → p ≤ k → k < n → tick ≤ get_or ticks k 0
+-- the same of steps that all change
+pub record Fit (amount : ℕ) (rises : Bool) (xs : List Step) : Type 0 where
+  pub most : (k : ℕ) → k < length xs → (get_or xs k no_step).free + amount ≤ max_free
+  pub enough : rises ≡ true → (k : ℕ) → k < length xs → amount ≤ (get_or xs k no_step).free
 
--- whether step p is one, at `tick`
-abbrev pub is_step : List ℕ → ℕ → ℕ → ℕ → Bool
-is_step ticks n p tick = cond (ltb p n) (eqb (get_or ticks p 0) tick) false
+-- p is behind the last step that is before `tick`
+pub record Position (xs : List Pair) (tick p : ℕ) : Type 0 where
+  pub within : p ≤ length xs
+  pub before : (k : ℕ) → suc k ≡ p → (step_at xs k).tick < tick
+  pub after : (k : ℕ) → p ≤ k → k < length xs → tick ≤ (step_at xs k).tick
 
 -- ---- a reading
 
--- the tick of step k, if it is one of the first n
-abbrev pub tick_if : List ℕ → ℕ → ℕ → Option ℕ
-tick_if ticks n k = cond (ltb k n) (some (get_or ticks k 0)) none
-
 -- the rules' words for what the code reads
-abbrev pub as_option : Free → Option ℕ
-as_option Nowhere = none
-as_option (From t) = some t
-
--- its tick, 0 if there is none
-abbrev pub tick_of : Free → ℕ
-tick_of Nowhere = 0
-tick_of (From t) = t
+abbrev pub as_option : Std.Option ℕ → Option ℕ
+as_option None = none
+as_option (Some t) = some t

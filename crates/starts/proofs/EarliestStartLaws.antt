@@ -20,17 +20,13 @@ use Rattle.model.specs.Layout.{Job, Entries, instance_from, partial_from, count_
 use Rattle.model.proofs.LayoutLaws.{last-finish-at}
 use Rattle.starts.specs.declared.memory.Memory.{Memory}
 use Rattle.starts.specs.declared.memory.Memory.TheVariants.{Aware, Plain}
-use Rattle.staircase.specs.declared.Free.{Free}
-use Rattle.staircase.specs.declared.Free.TheVariants.{Nowhere, From}
-use Rattle.staircase.specs.Steps.{as_option, tick_of}
+use Rattle.std.specs.Prelude.{Option, None, Some, IfSome}
+use Rattle.staircase.specs.Steps.{as_option}
 use Rattle.needs.specs.declared.demand.Demand.{Demand}
 use Rattle.needs.specs.Demands.{DemandOf, DemandBounds}
 use Rattle.starts.specs.Memories.{as_memory}
 
 -- ---- starts 3 and 4
-
-pub tick-of : {a : Free} {x : ℕ} → a ≡ From x → tick_of a ≡ x
-tick-of e = rw e
 
 -- what is read of the table
 pub asked-demand : {I : Instance} {P : Schedule} {i : ℕ} {c : Model.Colour} {d x : Demand} → d ≡ x → DemandOf I P i c x → DemandOf I P i c d
@@ -39,19 +35,13 @@ asked-demand e h = rw e h
 pub demand-bounds : {n : ℕ} {d x : Demand} → d ≡ x → DemandBounds n x → DemandBounds n d
 demand-bounds e h = rw e h
 
-module _ (a b : Free) (d : ℕ) where
-  pub latest-first : a ≡ Nowhere → none ≡ latest (as_option a) (delayed (as_option b) d)
-  latest-first e = rw e
-
-  pub latest-second : {x : ℕ} → a ≡ From x → b ≡ Nowhere → none ≡ latest (as_option a) (delayed (as_option b) d)
-  latest-second e g = rw (e, g)
-
-  pub latest-both : {x y r : ℕ} → a ≡ From x → b ≡ From y → r ≡ max x (y + d) → some r ≡ latest (as_option a) (delayed (as_option b) d)
-  latest-both e g q = rw (e, g, q)
+-- a bound of what an option holds
+pub bounded : {a : Option ℕ} {x m : ℕ} → a ≡ Some x → IfSome a (λ t. t ≤ m) → x ≤ m
+bounded e h = rw e at h
 
 module _ (I : Instance) (P : Schedule) (c : Model.Colour) (m : Memory) (i : ℕ) {d : Demand} (e : DemandOf I P i c d) where
   -- where they are asked for
-  pub memory-aware : m ≡ Aware → (x y z : Free) {need room : ℕ} → room ≡ output_size I i + work_at I i → need ≡ d.incoming + room
+  pub memory-aware : m ≡ Aware → (x y z : Option ℕ) {need room : ℕ} → room ≡ output_size I i + work_at I i → need ≡ d.incoming + room
       → as_option x ≡ free_from I P c need → as_option y ≡ free_from I P c d.incoming
       → as_option z ≡ latest (as_option x) (delayed (as_option y) d.longest) → as_option z ≡ memory_start (as_memory m) I P i c
   unfolding memory_start
@@ -107,11 +97,11 @@ module _ (b : Shape) (J : Job) (L : Entries) (last : List ℕ) where
 -- ---- the starts together
 
 module _ (m : Rules.Memory) (I : Instance) (Q : Partial) (i : ℕ) (c : Model.Colour) {d : Demand} {one r : ℕ} (e : DemandOf I Q.schedule i c d)
-    (e1 : one ≡ processor_start I Q c) (er : r ≡ max one d.arrival) (x : Free) (ex : as_option x ≡ memory_start m I Q.schedule i c) where
-  pub earliest-none : x ≡ Nowhere → none ≡ earliest_start m I Q i c
+    (e1 : one ≡ processor_start I Q c) (er : r ≡ max one d.arrival) (x : Option ℕ) (ex : as_option x ≡ memory_start m I Q.schedule i c) where
+  pub earliest-none : x ≡ None → none ≡ earliest_start m I Q i c
   unfolding earliest_start
   earliest-none n = let q : memory_start m I Q.schedule i c ≡ none = sym ex ∙ rw n in rw q
 
-  pub earliest-at : {s z : ℕ} → x ≡ From s → z ≡ max r s → some z ≡ earliest_start m I Q i c
+  pub earliest-at : {s z : ℕ} → x ≡ Some s → z ≡ max r s → some z ≡ earliest_start m I Q i c
   unfolding earliest_start
   earliest-at {s} n ez = let q : memory_start m I Q.schedule i c ≡ some s = sym ex ∙ rw n in rw (q, ez, er, e1, e.arrival)

@@ -4,13 +4,14 @@ use Rattle.placement.proofs.memory.change_if.Goals as goal
 
 pub change-requires : goal.change-requires
 change-requires c =
-    one-requires (change-some c.args.tick c.args.rises c.args.amount c.if-amount-gt0.true) c.requires
+    let r = one-requires (change-some c.args.tick c.args.rises c.args.amount c.if-amount-gt0.true) c.requires in
+    record { room = r.0; ascending = r.1; fits = r.2 }
 
 pub returns-then-amount-gt0 : goal.returns-then-amount-gt0
 returns-then-amount-gt0 c =
     let made = c.change.ensures in
-    one-made (change-some c.args.tick c.args.rises c.args.amount c.if-amount-gt0.true) _ _ _ made.result_after made.sized made.upper_bound
+    one-made (change-some c.args.tick c.args.rises c.args.amount c.if-amount-gt0.true) made
 
-pub returns : goal.returns
-returns c =
-    none_made (change-none c.args.tick c.args.rises c.args.amount c.if-amount-gt0.false) c.requires
+pub returns-else-amount-gt0 : goal.returns-else-amount-gt0
+returns-else-amount-gt0 c =
+    none_made (change-none c.args.tick c.args.rises c.args.amount c.if-amount-gt0.false) _

@@ -3,15 +3,15 @@ use Prim.Native.Nat.{◌-◌, ◌<◌, ◌≤◌}
 use mathlib.Core.Bool.{true}
 use mathlib.Core.Path.{◌≡◌}
 use Rattle.rules.specs.Scheduling.{reads}
-use Rattle.model.specs.Layout.{instance_of}
+use Rattle.model.specs.Jobs.{instance_in}
 use Rattle.staircase.specs.Stairs.{Made}
 use Rattle.placement.specs.Memory.{moves_of}
 use Rattle.placement.proofs.memory.move_all_in.Given as goal
 
 abbrev pub invariant-loop-k : goal.invariant-loop-k
 invariant-loop-k l =
-    (l.k ≤ l.shape.files) × (l.k < l.shape.files → reads (instance_of l.shape l.job) l.placing.i l.k ≡ true)
-    × Made (moves_of l.shape l.job l.schedule l.placing 0 l.k) l.initial.ticks l.initial.free l.n l.ticks l.free l.steps
+    (l.k ≤ l.job.shape.files) × (l.k < l.job.shape.files → reads (instance_in l.job) l.trial.task l.k ≡ true)
+    × Made (moves_of l.job l.schedule l.trial 0 l.k) l.initial.staircase l.staircase
 
 abbrev pub decreases-loop-k : goal.decreases-loop-k
-decreases-loop-k l = l.shape.files - l.k
+decreases-loop-k l = l.job.shape.files - l.k

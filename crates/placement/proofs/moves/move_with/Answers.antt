@@ -8,5 +8,5 @@ use Rattle.placement.proofs.moves.move_with.Goals as goal
 pub returns : goal.returns
 returns c =
     c.select.ensures.value
-    ∙ move-from c.requires.job_in_bounds (entries_of c.args.schedule.now) c.requires.k_lt_files c.args.i (as_colour c.args.colour) c.args.start
+    ∙ move-from c.args.job.now.in_bounds (entries_of c.args.schedule.now) c.requires c.args.trial.task (as_colour c.args.trial.colour) c.args.trial.start
     c.cost_for-cost.ensures.cost_of.move_time c.saturating_sub-departs.ensures c.move_start-before.ensures

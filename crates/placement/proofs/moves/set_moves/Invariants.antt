@@ -4,14 +4,14 @@ use mathlib.Core.Bool.{true}
 use mathlib.Core.Path.{◌≡◌}
 use Rattle.rules.specs.Scheduling.{reads}
 use Rattle.model.specs.Colours.{as_colour}
-use Rattle.model.specs.Layout.{job_of, instance_of, JobBounds}
+use Rattle.model.specs.Jobs.{instance_in}
 use Rattle.placement.proofs.MoveLaws.{MovesTo}
 use Rattle.placement.proofs.moves.set_moves.Given as goal
 
 abbrev pub invariant-loop-k : goal.invariant-loop-k
 invariant-loop-k l =
-    (l.k ≤ l.shape.files) × (l.k < l.shape.files → reads (instance_of l.shape l.job) l.i l.k ≡ true)
-    × ((f : JobBounds l.shape (job_of l.job)) → MovesTo f l.initial.schedule l.i (as_colour l.colour) l.start l.schedule l.k)
+    (l.k ≤ l.job.shape.files) × (l.k < l.job.shape.files → reads (instance_in l.job) l.trial.task l.k ≡ true)
+    × MovesTo l.job.in_bounds l.initial.schedule l.trial.task (as_colour l.trial.colour) l.trial.start l.schedule l.k
 
 abbrev pub decreases-loop-k : goal.decreases-loop-k
-decreases-loop-k l = l.shape.files - l.k
+decreases-loop-k l = l.job.shape.files - l.k

@@ -8,7 +8,6 @@ use Rattle.placement.proofs.task.assign.Goals as goal
 
 pub set_moves-requires : goal.set_moves-requires
 set_moves-requires c = record {
-  job_in_bounds = c.requires.job_in_bounds;
   i_lt_tasks = c.requires.i_lt_tasks.0;
   chained = c.requires.chained;
   schedule_len = c.requires.schedule_len.0;
@@ -16,29 +15,27 @@ set_moves-requires c = record {
 
 pub slot_in-slot-requires : goal.slot_in-slot-requires
 slot_in-slot-requires c =
-    let J = job_of c.args.job.now in
+    let J = job_of c.args.job.now.numbers.now in
     let L = entries_of c.args.schedule.now in record {
-      processors = c.requires.job_in_bounds.processors;
-      p_bound = chosen-exists c.args.shape c.args.last.now c.args.colour c.args.start J L c.requires.job_in_bounds.processors
+      processors = c.args.job.now.in_bounds.processors;
+      p_bound = chosen-exists c.args.job.now.shape c.args.last.now c.args.trial.colour c.args.trial.start J L c.args.job.now.in_bounds.processors
           c.requires.colour_bound (c.chosen_processor-p.ensures J L);
     }
 
 pub overflow_add-finish : goal.overflow_add-finish
 overflow_add-finish c =
-    let i = c.args.i in
-    let h = c.requires.i_lt_tasks.0 in
-    omega (arith, c.requires.i_lt_tasks.1, c.requires.job_in_bounds.on_blue i h, c.requires.job_in_bounds.on_red i h, c.run_time.ensures.upper_bound)
+    omega (arith, c.requires.i_lt_tasks.1, c.run_time.ensures.upper_bound)
 
 pub returns : goal.returns
 returns c =
-    let J = job_of c.args.job.now in
+    let J = job_of c.args.job.now.numbers.now in
     let L = entries_of c.args.schedule.now in
     let chosen = c.chosen_processor-p.ensures J L in
     let run = c.set_run.ensures in
-    let exists = chosen-exists c.args.shape c.args.last.now c.args.colour c.args.start J L
-    c.requires.job_in_bounds.processors c.requires.colour_bound chosen in record {
+    let exists = chosen-exists c.args.job.now.shape c.args.last.now c.args.trial.colour c.args.trial.start J L
+    c.args.job.now.in_bounds.processors c.requires.colour_bound chosen in record {
       schedule_len_2 = (run.schedule_len.1, simp length-set c.requires.schedule_len.1);
-      last_after = placed c.requires.job_in_bounds c.args.schedule.now c.args.last.now c.args.colour c.requires.i_lt_tasks.0 c.args.start c.set_moves.new.schedule
+      last_after = placed c.args.job.now.in_bounds c.args.schedule.now c.args.last.now c.args.trial.colour c.requires.i_lt_tasks.0 c.args.trial.start c.set_moves.new.schedule
           c.set_moves.ensures.schedule_len_2 c.set_moves.ensures.by_index
           c.chosen_processor-p.result c.requires.schedule_len.1 c.set_moves.ensures.schedule_after chosen exists c.slot_in-slot.ensures.value
           c.run_time.ensures.value run.schedule_after;

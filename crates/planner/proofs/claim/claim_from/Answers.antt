@@ -14,5 +14,5 @@ peak-requires-2 c = c.requires.free_within.1
 pub returns : goal.returns
 returns c =
     let a = c.args in
-    λ J L table T U K done.
-    claim-true a.shape J L a.last.now K done _ (c.latest_finish.ensures J L) (c.peak.ensures T) (c.peak-2.ensures U)
+    λ J L table K done.
+    claim-true a.shape J L a.last.now K done _ (c.latest_finish.ensures J L) c.peak.ensures c.peak-2.ensures

@@ -1,5 +1,4 @@
 -- `rounds` meets its contract. The invariant: the planner's state between two rounds.
-use Prim.Native.Nat.{◌-◌}
 use mathlib.Core.Path.{◌≡◌}
 use lib.ListN.{length}
 use Rattle.model.specs.Layout.{job_of, entries_of, WholeSchedule, last_length}
@@ -10,8 +9,4 @@ use Rattle.planner.proofs.rounds.rounds.Given as goal
 abbrev pub invariant-loop-placed : goal.invariant-loop-placed
 invariant-loop-placed l =
     WholeSchedule l.schedule × (length l.last ≡ last_length)
-    × Planning (as_planner l.rule) l.shape (job_of l.job) (entries_of l.schedule) l.last l.needs l.blue_ticks l.blue_free l.red_ticks l.red_free l.n l.placed l.trials
-
-abbrev pub decreases-loop-placed : goal.decreases-loop-placed
-decreases-loop-placed l =
-    l.shape.tasks - l.placed
+    × Planning (as_planner l.rule) l.job.shape (job_of l.job.numbers.now) (entries_of l.schedule) l.last l.needs l.stairs l.placed l.trials

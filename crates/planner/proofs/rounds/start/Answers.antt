@@ -8,11 +8,14 @@ use Rattle.placement.proofs.PlaceLaws.{empty-from}
 use Rattle.planner.proofs.RunLaws.{empty-bounds}
 use Rattle.planner.proofs.rounds.start.Goals as goal
 
+pub invariant_of-job : goal.invariant_of-job
+invariant_of-job c = record { in_bounds = job-bounds c.args.shape (job_of c.args.numbers.now) c.requires.well_formed.0 }
+
 pub link-requires : goal.link-requires
-link-requires c = job-bounds c.args.shape (job_of c.args.job.now) c.requires.well_formed.0
+link-requires c = job-bounds c.args.shape (job_of c.args.numbers.now) c.requires.well_formed.0
 
 pub link-requires-2 : goal.link-requires-2
-link-requires-2 c = job-bounds c.args.shape (job_of c.args.job.now) c.requires.well_formed.0
+link-requires-2 c = job-bounds c.args.shape (job_of c.args.numbers.now) c.requires.well_formed.0
 
 pub by_weight-order-requires : goal.by_weight-order-requires
 by_weight-order-requires c = record {
@@ -23,7 +26,7 @@ by_weight-order-requires c = record {
 pub start-requires : goal.start-requires
 start-requires c =
     let a = c.args in
-    let J = job_of a.job.now in record {
+    let J = job_of a.numbers.now in record {
       in_bounds = empty-bounds a.shape J c.requires.well_formed.0 (entries_of a.schedule.now) (replicate {A = ℕ} last_length 0)
           (rw c.requires.schedule_value (empty-from a.shape J last_length));
       chained = c.link.ensures.chained;

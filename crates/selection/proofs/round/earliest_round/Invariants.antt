@@ -8,8 +8,5 @@ use Rattle.selection.proofs.round.earliest_round.Given as goal
 
 abbrev pub invariant-loop-i : goal.invariant-loop-i
 invariant-loop-i l =
-    (l.i ≤ l.shape.tasks) × (l.trials ≤ 2 * l.i) × ChoiceBounds l.shape l.choice
-    × Passed (as_memory l.memory) l.shape (job_of l.job) l.last l.needs l.blue_ticks l.blue_free l.red_ticks l.red_free l.n l.choice l.trials l.i
-
-abbrev pub decreases-loop-i : goal.decreases-loop-i
-decreases-loop-i l = l.shape.tasks - l.i
+    (l.trials ≤ 2 * l.i) × ChoiceBounds l.job.shape l.choice
+    × Passed (as_memory l.memory) l.job.shape (job_of l.job.numbers.now) l.last l.needs l.stairs l.choice l.trials l.i

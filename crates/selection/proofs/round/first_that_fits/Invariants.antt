@@ -7,8 +7,5 @@ use Rattle.selection.proofs.round.first_that_fits.Given as goal
 
 abbrev pub invariant-loop-i : goal.invariant-loop-i
 invariant-loop-i l =
-    (l.i ≤ l.shape.tasks) × (l.trials ≤ 2 * l.i)
-    × LeftFor (as_memory l.memory) l.shape (job_of l.job) l.last l.needs l.blue_ticks l.blue_free l.red_ticks l.red_free l.n l.order l.i l.trials
-
-abbrev pub decreases-loop-i : goal.decreases-loop-i
-decreases-loop-i l = l.shape.tasks - l.i
+    (l.trials ≤ 2 * l.i)
+    × LeftFor (as_memory l.memory) l.job.shape (job_of l.job.numbers.now) l.last l.needs l.stairs l.order l.i l.trials

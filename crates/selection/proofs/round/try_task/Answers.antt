@@ -10,11 +10,10 @@ use Rattle.selection.proofs.RoundLaws.{is-ready, one-tried, one_left}
 use Rattle.selection.proofs.round.try_task.Goals as goal
 
 pub is_ready-requires : goal.is_ready-requires
-is_ready-requires c = omega (arith, c.requires.job_in_bounds.tasks, c.requires.task_lt_tasks)
+is_ready-requires c = omega (arith, c.args.job.now.in_bounds.tasks, c.requires.task_lt_tasks)
 
 pub both_colours-choice-requires : goal.both_colours-choice-requires
 both_colours-choice-requires c = record {
-  job_in_bounds = c.requires.job_in_bounds;
   kept_bounds = c.requires.kept_bounds;
   task_lt_tasks = c.requires.task_lt_tasks;
 }
@@ -23,7 +22,7 @@ pub returns-then-is_ready : goal.returns-then-is_ready
 returns-then-is_ready c =
     let a = c.args in record {
       result_value = (λ Q k e.
-          let h : a.task < task_count (instance_from a.shape (job_of a.job.now)) = omega (arith, task-count a.shape (job_of a.job.now), c.requires.task_lt_tasks) in
+          let h : a.task < task_count (instance_from a.job.now.shape (job_of a.job.now.numbers.now)) = omega (arith, task-count a.job.now.shape (job_of a.job.now.numbers.now), c.requires.task_lt_tasks) in
           one-tried k h c.is_ready.ensures (as_memory a.memory) c.if-is_ready.true c.both_colours-choice.result
           (c.both_colours-choice.ensures.result_value Q k e (is-ready k h c.is_ready.ensures ∙ c.if-is_ready.true)));
       choice_bounds = (c.both_colours-choice.ensures.choice_bounds, omega arith);
@@ -33,7 +32,7 @@ pub returns : goal.returns
 returns c =
     let a = c.args in record {
       result_value = (λ Q k e.
-          let h : a.task < task_count (instance_from a.shape (job_of a.job.now)) = omega (arith, task-count a.shape (job_of a.job.now), c.requires.task_lt_tasks) in
+          let h : a.task < task_count (instance_from a.job.now.shape (job_of a.job.now.numbers.now)) = omega (arith, task-count a.job.now.shape (job_of a.job.now.numbers.now), c.requires.task_lt_tasks) in
           one_left k h c.is_ready.ensures (as_memory a.memory) c.if-is_ready.false);
       choice_bounds = (tt, omega arith);
     }

@@ -12,14 +12,14 @@ pub earliest_start-on_blue-requires : goal.earliest_start-on_blue-requires
 earliest_start-on_blue-requires c =
     let k = c.requires.kept_bounds in record {
       needs_bounds = (k.0.needs, k.0.blue);
-      task_lt_max_tasks = (omega (arith, c.requires.job_in_bounds.tasks), k.1.0);
+      task_lt_max_tasks = (omega (arith, c.args.job.now.in_bounds.tasks), k.1.0);
     }
 
 pub earliest_start-on_red-requires : goal.earliest_start-on_red-requires
 earliest_start-on_red-requires c =
     let k = c.requires.kept_bounds in record {
       needs_bounds = (k.0.needs, k.0.red);
-      task_lt_max_tasks = (omega (arith, c.requires.job_in_bounds.tasks), k.1.1);
+      task_lt_max_tasks = (omega (arith, c.args.job.now.in_bounds.tasks), k.1.1);
     }
 
 pub tried-first-requires : goal.tried-first-requires
@@ -29,20 +29,18 @@ pub tried-second-requires : goal.tried-second-requires
 tried-second-requires c = c.earliest_start-on_red.ensures.result_bound
 
 pub earlier-requires : goal.earlier-requires
-earlier-requires c = record {
-  job_in_bounds = c.requires.job_in_bounds;
-  choice_bounds = (c.tried-first.ensures.choice_bounds c.args.shape c.requires.task_lt_tasks, c.tried-second.ensures.choice_bounds c.args.shape c.requires.task_lt_tasks);
-}
+earlier-requires c =
+    (c.tried-first.ensures.choice_bounds c.args.job.now.shape c.requires.task_lt_tasks, c.tried-second.ensures.choice_bounds c.args.job.now.shape c.requires.task_lt_tasks)
 
 pub returns : goal.returns
 returns c =
     let a = c.args in
-    let I = instance_from a.shape (job_of a.job.now) in record {
+    let I = instance_from a.job.now.shape (job_of a.job.now.numbers.now) in record {
       result_value = (λ Q k e r.
-          let h : a.task < task_count I = omega (arith, task-count a.shape (job_of a.job.now), c.requires.task_lt_tasks) in
+          let h : a.task < task_count I = omega (arith, task-count a.job.now.shape (job_of a.job.now.numbers.now), c.requires.task_lt_tasks) in
           both_at (as_memory a.memory) I Q a.task c.earliest_start-on_blue.result c.earliest_start-on_red.result
           c.tried-first.result c.tried-second.result c.earlier.result
           (c.earliest_start-on_blue.ensures.result_value I Q (on-blue k e h r)) (c.earliest_start-on_red.ensures.result_value I Q (on-red k e h r))
           c.tried-first.ensures.result_value c.tried-second.ensures.result_value c.earlier.ensures.result_value);
-      choice_bounds = c.earlier.ensures.choice_bounds_2;
+      choice_bounds = c.earlier.ensures.choice_bounds;
     }

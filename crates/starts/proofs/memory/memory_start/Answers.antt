@@ -8,12 +8,16 @@ use Rattle.starts.proofs.EarliestStartLaws.{memory-aware, memory-plain}
 use Rattle.starts.proofs.memory.memory_start.Goals as goal
 
 pub both_from-found-requires : goal.both_from-found-requires
-both_from-found-requires c = (c.requires.ticks_within.pairs, omega arith)
+both_from-found-requires c = omega arith
 
 pub latest-requires : goal.latest-requires
 latest-requires c =
     let t = c.both_from-found.ensures.by_index last_tick c.requires.ticks_within.last in
-    (t.0, t.1, c.requires.demand_bounds.0.longest)
+    record {
+      running_bound = t.0;
+      moving_bound = t.1;
+      delay_bound = c.requires.demand_bounds.0.longest;
+    }
 
 pub returns-in-Aware : goal.returns-in-Aware
 returns-in-Aware c =

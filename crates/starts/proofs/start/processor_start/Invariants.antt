@@ -1,5 +1,5 @@
 -- `processor_start` meets its contract. The invariant: the least last finish of the processors passed.
-use Prim.Native.Nat.{◌≤◌, ◌+◌, ◌-◌, pred}
+use Prim.Native.Nat.{◌≤◌, ◌+◌, pred}
 use mathlib.Core.Path.{◌≡◌}
 use lib.ListN.{get_or}
 use Rattle.rules.specs.Count.{min_up_to}
@@ -8,7 +8,4 @@ use Rattle.starts.proofs.start.processor_start.Given as goal
 
 abbrev pub invariant-loop-i : goal.invariant-loop-i
 invariant-loop-i l =
-    (1 ≤ l.i) × (l.i ≤ l.count) × (l.least ≤ last_tick) × (l.least ≡ min_up_to (pred l.i) (λ p. get_or l.last (l.first + p) 0))
-
-abbrev pub decreases-loop-i : goal.decreases-loop-i
-decreases-loop-i l = l.count - l.i
+    (l.least ≤ last_tick) × (l.least ≡ min_up_to (pred l.i) (λ p. get_or l.last (l.first + p) 0))

@@ -1,0 +1,65 @@
+// Steps of a staircase: all of some changed, and the first of those that stay at an amount.
+ghost use Rattle.std.specs.Prelude.{◌≡◌, true, false, ℕ, suc, ◌+◌, ◌<◌, ◌≤◌, map, length, get_or, slice_get, option_map, ◌≢◌};
+ghost use Rattle.std.specs.Fn.{FnReturnsAt};
+ghost use Rattle.rules.specs.Count.{settled_from};
+ghost use Rattle.rules.specs.Staircase.{free_by, suffices};
+ghost use Rattle.staircase.specs.Steps.{as_steps, no_step, change_by, max_free, with_change, Fit};
+
+use super::Step;
+
+// The amount free after a change of what is held.
+pub fn free_after(free: u64, amount: u64, rises: bool) -> u64
+    requires most { free + amount ≤ max_free }
+    requires enough { rises ≡ true → amount ≤ free }
+    ensures { (tick : ℕ) → result ≡ free_by (change_by tick amount rises) free }
+{
+    if rises { free - amount } else { free + amount }
+}
+
+// Every step after the change.
+pub fn change_all(steps: &mut [Step], amount: u64, rises: bool)
+    requires { Fit amount rises steps.old }
+    ensures { steps.new ≡ map (with_change amount rises) steps.old }
+{
+    for step in steps.iter_mut() {
+        step.free = free_after(step.free, amount, rises);
+    }
+}
+
+// Whether there is a step p, at `tick`.
+pub fn stands_at(steps: &[Step], p: usize, tick: u64) -> bool
+    ensures yes { result ≡ true → (p < length steps.now) × ((get_or steps.now p no_step).tick ≡ tick) }
+    ensures no { result ≡ false → p < length steps.now → (get_or steps.now p no_step).tick ≢ tick }
+{
+    p < steps.len() && steps[p].tick == tick
+}
+
+// Behind the last step that meets the test, or 0.
+pub fn behind_last<F: Fn(&Step) -> bool>(steps: &[Step], test: F) -> usize
+    requires { F.IsAlwaysCallable test }
+    ensures within { result ≤ length steps.now }
+    ensures met { (k : ℕ) → suc k ≡ result → FnReturnsAt F.Fn test (get_or steps.now k no_step) true }
+    ensures unmet { (k : ℕ) → result ≤ k → k < length steps.now → FnReturnsAt F.Fn test (get_or steps.now k no_step) false }
+{
+    for k in (0..steps.len()).rev() {
+        if test(&steps[k]) {
+            return k + 1;
+        }
+    }
+    0
+}
+
+// The first step from which on each has `need` free, or the number of steps.
+pub fn settled(steps: &[Step], need: u64) -> usize
+    ensures value { result ≡ settled_from (length steps.now) (suffices (as_steps steps.now) need) }
+    ensures within { result ≤ length steps.now }
+{
+    behind_last(steps, |step| step.free < need)
+}
+
+// The tick of step k, if there is one.
+pub fn tick_of(steps: &[Step], k: usize) -> Option<u64>
+    ensures { result ≡ option_map (λ s. s.tick) (slice_get steps.now k) }
+{
+    steps.get(k).map(|step| step.tick)
+}
