@@ -6,7 +6,7 @@ use Rattle.planner.specs.Outcomes.{as_planner}
 use Rattle.plan_text.proofs.AnswerLaws.{made-stuck, made-written, made-claim}
 use Rattle.plan_text.proofs.plan_instance.Goals as goal
 
-pub run-outcome-requires : goal.run-requires
+pub run-outcome-requires : goal.run-outcome-requires
 run-outcome-requires c = record {
   well_formed = c.requires;
   schedule_value = c.new-schedule.ensures;
