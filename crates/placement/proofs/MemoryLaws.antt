@@ -19,10 +19,10 @@ use Rattle.model.specs.Jobs.{instance_in}
 use Rattle.model.specs.declared.colour.Colour as Code
 use Rattle.model.specs.declared.colour.Colour.TheVariants.{Blue, Red}
 use Rattle.model.specs.declared.crossing.Cost.{Cost}
-use Rattle.model.specs.Colours.{as_colour, by_colour}
+use Rattle.model.specs.Colours.{as_colour}
 use Rattle.model.specs.Costs.{CostOf}
 use Rattle.model.specs.Layout.{job_of, schedule_of}
-use Rattle.model.proofs.LayoutLaws.{file-count, move-time-at, finish-on-at}
+use Rattle.model.proofs.LayoutLaws.{file-count, move-time-at}
 use Rattle.links.specs.Chains.{NextOf}
 use Rattle.staircase.specs.Steps.{change_by, Ascending, Fits}
 use Rattle.staircase.specs.Stairs.{Pending, Made}

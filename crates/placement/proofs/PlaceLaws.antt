@@ -1,5 +1,5 @@
 -- The partial schedule with one task more, and with nothing placed.
-use Prim.Native.Nat.{ℕ, suc, ◌+◌, ◌*◌, ◌<◌}
+use Prim.Native.Nat.{ℕ, suc, ◌+◌, ◌<◌}
 use mathlib.Core.List.{List}
 use mathlib.Core.Path.{◌≡◌, refl, subst, sym, ap, ◌∙◌}
 use native.Mathlib.Numerals.{add-one}
@@ -10,16 +10,16 @@ use Rattle.rules.specs.Count.{list_below}
 use Rattle.rules.specs.Limits.{max_tasks, max_files}
 use Rattle.rules.specs.Model.{Instance, Run, unplaced, processor_count, file_count, time_on, task_at}
 use Rattle.rules.specs.Scheduling.{Partial, slot_of, chosen_processor, move_with, assign, empty, finish_on}
-use Rattle.rules.proofs.CountLaws.{list-cong, list_set, list_same, get_or-same}
+use Rattle.rules.proofs.CountLaws.{list_set, list_same, get_or-same}
 use Rattle.model.specs.declared.layout.Shape.{Shape}
 use Rattle.model.specs.declared.layout.Run.{Run as StoredRun}
 use Rattle.model.specs.declared.layout.Schedule.{Schedule as StoredSchedule}
 use Rattle.model.specs.declared.colour.Colour.{Colour}
 use Rattle.model.specs.declared.colour.Colour.TheVariants.{Blue, Red}
-use Rattle.model.specs.Colours.{as_colour, by_colour}
+use Rattle.model.specs.Colours.{as_colour}
 use Rattle.model.specs.Layout.{Job, entries_of, run_from, instance_from, schedule_from, schedule_of, partial_from, count_in, JobBounds, WholeSchedule, unplaced as no_runs}
 use Rattle.model.specs.Layout.{last_length, with_run_at}
-use Rattle.model.proofs.LayoutLaws.{file-count, task-count, finish-on-at, processors-of}
+use Rattle.model.proofs.LayoutLaws.{file-count, task-count, processors-of}
 use Rattle.model.proofs.WriteLaws.{run-here, run-other}
 use Rattle.placement.specs.Slots.{slot_in}
 use Rattle.placement.proofs.SlotLaws.{slot_at, slot-exists}

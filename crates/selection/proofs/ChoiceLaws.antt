@@ -1,23 +1,18 @@
 -- The trials of one task: the cases of the small functions on choices.
-use Prim.Native.Nat.{ℕ, ◌≤◌, ◌<◌}
+use Prim.Native.Nat.{ℕ, ◌<◌}
 use mathlib.Core.Bool.{true}
 use mathlib.Core.List.{List}
 use mathlib.Core.Path.{◌≡◌, ◌∙◌}
-use borrow.Author.Tests.{le-leb, lt-leb}
 use Rattle.rules.specs.Model.{blue, red, Instance, task_count}
-use Rattle.rules.specs.Scheduling.{Memory, Partial, ready, nothing, choose, earliest_start, finish_on, tried, earlier, both_colours}
-use Rattle.model.specs.declared.layout.Shape.{Shape}
-use Rattle.model.specs.declared.colour.Colour.{Colour}
+use Rattle.rules.specs.Scheduling.{Memory, Partial, ready, earliest_start, tried, earlier, both_colours}
 use Rattle.model.specs.declared.colour.Colour.TheVariants.{Blue, Red}
-use Rattle.model.specs.Colours.{as_colour}
-use Rattle.model.specs.Layout.{last_start}
 use Rattle.staircase.specs.Steps.{as_option}
 use Rattle.starts.specs.Kept.{Kept, Tried}
 use Rattle.std.specs.Prelude.{Option}
 use Rattle.rules.specs.Staircase.{Step}
 use Rattle.model.specs.declared.colour.ByColour.{ByColour}
 use Rattle.model.specs.declared.trial.Trial.{Trial}
-use Rattle.selection.specs.Choices.{as_choice, ChoiceBounds, IdleOf}
+use Rattle.selection.specs.Choices.{as_choice, IdleOf}
 
 pub both_at : (m : Memory) (I : Instance) (Q : Partial) (i : ℕ) (f g : Option ℕ) (a b r : Option Trial)
     → as_option f ≡ earliest_start m I Q i blue → as_option g ≡ earliest_start m I Q i red

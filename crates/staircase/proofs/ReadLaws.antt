@@ -8,9 +8,8 @@ use native.Mathlib.Omega.{arith}
 use lib.Dec.{leb, ltb}
 use lib.ListN.{length, get_or, take}
 use borrow.Author.Tests.{le-leb, lt-leb, ltb-true, ltb-false, leb-true, lt-ltb, le-ltb}
-use Rattle.std.specs.Prelude.{Option, None, Some, slice_get, option_map, IfSome}
-use Rattle.std.proofs.lemmas.List.{length-map, get_or-map, take-map, get_or-take, length-take-le}
-use Rattle.std.proofs.lemmas.Option.{slice_get-get_or, slice_get_past}
+use Rattle.std.specs.Prelude.{Option, slice_get, option_map, IfSome}
+use Rattle.std.proofs.lemmas.List.{length-map, get_or-take, length-take-le}
 use Rattle.rules.specs.Count.{settled_from, min_up_to}
 use Rattle.rules.specs.Staircase.{Step as Pair, step_at, suffices, free_from_steps, least_free}
 use Rattle.rules.proofs.Tests.{split, by_order, clash}

@@ -4,16 +4,15 @@ use mathlib.Core.List.{List, [], ◌∷◌, ◌++◌}
 use mathlib.Core.Path.{◌≡◌, sym, ◌∙◌, ap}
 use native.Mathlib.Omega.{arith}
 use lib.Dec.{eqb}
-use lib.ListN.{length, get_or, length-append, get_or-append}
+use lib.ListN.{length, length-append, get_or-append}
 use lib.Seq.{get_or-append_seam}
-use Rattle.rules.specs.Limits.{max_pairs}
 use Rattle.rules.specs.Model.{Colour, Instance, Schedule, limit_of}
 use Rattle.rules.specs.Residency.{horizon}
 use Rattle.rules.specs.Scheduling.{aware, Partial, empty, free_from, assign}
 use Rattle.rules.specs.Promises.{WellFormed, Trial}
 use Rattle.rules.specs.Staircase.{Step, step_at, free_at, steps_up_to, stairs, free_from_steps, steps_after_all, grouped_changes, Placed}
 use Rattle.rules.proofs.Tests.{split, by_order}
-use Rattle.rules.proofs.StairsLaws.{stairs-are, stairs_law, stairs_read_law}
+use Rattle.rules.proofs.StairsLaws.{stairs-are, stairs_read_law}
 use Rattle.rules.proofs.StairsStartLaws.{stairs_start}
 use Rattle.rules.proofs.GroupedLaws.{grouped-kept, grouped-room, grouped-steps, grouped-amounts}
 use Rattle.staircase.specs.Steps.{start_steps}

@@ -1,6 +1,6 @@
 -- The steps after a change.
 use Prim.Native.Nat.{ℕ, zero, suc, ◌+◌, ◌-◌, ◌≤◌, ◌<◌}
-use mathlib.Core.Bool.{Bool, true, false, cond}
+use mathlib.Core.Bool.{true, false}
 use mathlib.Core.List.{List, [], ◌∷◌, ◌++◌, map}
 use mathlib.Core.Path.{◌≡◌, refl, sym, ◌∙◌, ap}
 use Rattle.std.specs.Prelude.{◌≢◌}
@@ -15,8 +15,8 @@ use Rattle.rules.proofs.Tests.{split}
 use Rattle.rules.specs.Changes.{Change}
 use Rattle.rules.specs.Staircase.{Step as Pair, step_at, free_by, steps_shifted, step_if_new, steps_behind, steps_after}
 use Rattle.staircase.specs.declared.Step.{Step}
-use Rattle.staircase.specs.Steps.{as_step, as_steps, no_step, with_change, change_by, Ascending, Fits, Fit, Position, max_free}
-use Rattle.staircase.proofs.ReadLaws.{step-is, tick-is, free-is}
+use Rattle.staircase.specs.Steps.{as_step, as_steps, no_step, with_change, Ascending, Fits, Fit, Position, max_free}
+use Rattle.staircase.proofs.ReadLaws.{tick-is, free-is}
 
 -- ---- the rules' steps, in front of the change's tick and from there on
 

@@ -2,7 +2,7 @@
 use Rattle.std.specs.Prelude.{ℕ, suc, ◌+◌, ◌*◌, ◌≤◌, ◌<◌, Bool, true, List, [], ◌∷◌, ◌≡◌, map, length, get_or, Some, None}
 use Rattle.std.specs.Prelude as Std
 use Rattle.std.proofs.Math.Option.{Option, none, some}
-use Rattle.rules.specs.Limits.{max_pairs, max_files, memory_limits, file_sizes, work_sizes}
+use Rattle.rules.specs.Limits.{max_files, memory_limits, file_sizes, work_sizes}
 use Rattle.rules.specs.Changes.{Change}
 use Rattle.rules.specs.Staircase.{Step as Pair, step_at, free_by}
 use Rattle.staircase.specs.declared.Step.{Step}

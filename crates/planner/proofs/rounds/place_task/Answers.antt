@@ -1,7 +1,6 @@
 -- `place_task` meets its contract: the placing keeps the staircases, and the table is renewed.
 use mathlib.Core.Path.{refl}
 use Rattle.model.specs.Layout.{job_of, entries_of}
-use Rattle.model.proofs.LayoutLaws.{job-bounds}
 use Rattle.planner.proofs.PlacingLaws.{trial-task, trial-index, placing-sizes, after-bounds, after-needs, after-placed, after_kept}
 use Rattle.planner.proofs.rounds.place_task.Goals as goal
 

@@ -1,5 +1,5 @@
 -- `earliest_round` meets its contract. The invariant: the round of the tasks passed.
-use Prim.Native.Nat.{◌≤◌, ◌*◌, ◌-◌}
+use Prim.Native.Nat.{◌≤◌, ◌*◌}
 use Rattle.model.specs.Layout.{job_of}
 use Rattle.starts.specs.Memories.{as_memory}
 use Rattle.selection.specs.Choices.{ChoiceBounds}

@@ -1,5 +1,5 @@
 -- `first_that_fits` meets its contract. The invariant: the whole answer is that of the tasks left, after the trials made.
-use Prim.Native.Nat.{◌≤◌, ◌*◌, ◌-◌}
+use Prim.Native.Nat.{◌≤◌, ◌*◌}
 use Rattle.model.specs.Layout.{job_of}
 use Rattle.starts.specs.Memories.{as_memory}
 use Rattle.selection.proofs.RoundLaws.{LeftFor}

@@ -1,5 +1,4 @@
-use Rattle.std.proofs.Common.{◌≡◌, ◌∙◌, ap, List}
-use Rattle.rules.specs.Staircase.{Step as Pair, free_from_steps}
+use Rattle.std.proofs.Common.{◌≡◌, ◌∙◌, ap}
 use Rattle.staircase.specs.Steps.{as_steps}
 use Rattle.staircase.proofs.ReadLaws.{read_all, read_some, tick_within}
 use Rattle.staircase.proofs.Staircase.both_from.Goals as goal

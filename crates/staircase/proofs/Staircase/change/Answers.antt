@@ -1,10 +1,10 @@
 -- `change` meets its contract, case by case.
-use Rattle.std.proofs.Common.{◌≡◌, ◌≢◌, ◌∙◌, ◌<◌, ◌+◌, ◌-◌, sym, ap, arith, refl, List, length, get_or}
+use Rattle.std.proofs.Common.{◌≡◌, ◌∙◌, ◌<◌, ◌-◌, sym, ap, arith, get_or}
 use Rattle.std.specs.List.{remove, insert}
 use Rattle.rules.specs.Staircase.{free_by, steps_after}
 use Rattle.staircase.specs.declared.Step.{Step}
 use Rattle.staircase.specs.Steps.{as_steps, change_by, no_step}
-use Rattle.staircase.proofs.StepLaws.{here, fit_lent, lent, still, from_first, before_is, stands, at_equal, at_differs, new_most, new_enough, new_equal, new_differs}
+use Rattle.staircase.proofs.StepLaws.{here, fit_lent, lent, from_first, before_is, at_equal, at_differs, new_most, new_enough, new_equal, new_differs}
 use Rattle.staircase.proofs.Staircase.change.Goals as goal
 
 pub change_all-requires : goal.change_all-requires
