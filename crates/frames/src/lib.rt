@@ -12,5 +12,5 @@ pub use marker::{fault_line, mark};
 pub use plan_text::Answer;
 pub use planners::{heft, mem_heft, mem_min_min, min_min};
 pub use simulation::simulate;
-pub use simulator::answer::{Progress, Simulation};
+pub use simulator::answer::{Progress, Simulation, TickFault};
 pub use validator::judgement::Verdict;

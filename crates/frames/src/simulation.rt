@@ -1,24 +1,36 @@
 // The simulator: a timetable stepped through on a board sheet.
 ghost use Rattle.std.specs.Prelude.{◌≡◌};
 ghost use Rattle.rules.specs.Simulation.{simulate as rules-simulate};
-ghost use Rattle.simulator.specs.Answers.{as_simulation};
+ghost use Rattle.simulator.specs.Answers.{as_answer};
 ghost use Rattle.frames.specs.Demands.{SimulatorDemands};
 
 use instance::InstanceRead;
+use model::job::Job;
 use model::layout;
+use rules::Refusal;
 use simulate_text::simulate_paper;
 use simulator::answer::Simulation;
 
-// Makes so many steps on a timetable, from the steps already made: how that ends, the steps made in all, and the state that it leaves.
-pub fn simulate<'a>(sheet: &'a [u8], paper: &'a [u8], made: u64, steps: u64) -> Simulation
-    ensures answer { as_simulation result ≡ rules-simulate sheet.now paper.now made steps }
-    ensures simulator_demands { SimulatorDemands sheet.now paper.now made steps (as_simulation result) }
+// Makes so many steps on a timetable, from the steps already made: how that ends, the steps made in all, and the state that it
+// leaves; or the refusal of a text.
+pub fn simulate<'a>(
+    sheet: &'a [u8],
+    paper: &'a [u8],
+    made: u64,
+    steps: u64,
+) -> Result<Simulation, Refusal>
+    ensures answer { as_answer result ≡ rules-simulate sheet.now paper.now made steps }
+    ensures simulator_demands { SimulatorDemands sheet.now paper.now made steps (as_answer result) }
 {
-    let mut job = layout::Numbers::new();
-    match instance::read(sheet, &mut job) {
-        InstanceRead::Refused(fault, line) => {
-            Simulation::refused(text::sheet_number(fault), line)
+    let mut numbers = layout::Numbers::new();
+    match instance::read(sheet, &mut numbers) {
+        InstanceRead::Refused(fault, line) => Err(Refusal::Sheet(fault, line)),
+        InstanceRead::Accepted(shape) => {
+            let job = Job {
+                shape,
+                numbers: &numbers,
+            };
+            simulate_paper(&job, paper, made, steps)
         }
-        InstanceRead::Accepted(shape) => simulate_paper(shape, &job, paper, made, steps),
     }
 }

@@ -90,13 +90,21 @@ pub extern "C" fn frames_simulate<'a>(
     ensures running { running.new ≡ (rules-simulate sheet.now paper.now made steps).state.running }
     ensures contents { contents.new ≡ (rules-simulate sheet.now paper.now made steps).state.contents }
 {
-    let a = frames::simulate(sheet, paper, made, steps);
-    let p = a.progress;
-    *numbers = [p.number(), p.place(), p.left(), p.span(), a.made, a.time];
-    let tasks = a.running;
-    *running = tasks;
-    let files = a.contents;
-    *contents = files;
+    match frames::simulate(sheet, paper, made, steps) {
+        Ok(a) => {
+            let p = a.progress;
+            *numbers = [p.number(), p.place(), p.left(), p.span(), a.made, a.time];
+            let tasks = a.running;
+            *running = tasks;
+            let files = a.contents;
+            *contents = files;
+        }
+        Err(refusal) => {
+            *numbers = [refusal.number(), refusal.place(), 0, 0, 0, 0];
+            *running = [0; Board::ALL_PROCESSORS];
+            *contents = [0; Board::MAX_FILES];
+        }
+    }
 }
 
 // Number and place of `convert`; the sheet is in `out`.

@@ -7,7 +7,7 @@ ghost use Rattle.model.specs.Layout.{JobInBounds, job_of};
 use crate::line::Line;
 use crate::step;
 use console::print_marks;
-use frames::{Progress, Simulation};
+use frames::{Progress, Simulation, TickFault};
 use instance::InstanceRead;
 use model::layout;
 use model::layout::Shape;
@@ -56,34 +56,31 @@ fn print_note(rt: &impl Print, shape: Shape, job: &layout::Numbers) -> Result<()
 }
 
 // Why a fault stops it.
-fn reason(fault: u64) -> Line
+fn reason(fault: TickFault) -> Line
     ensures { result.used ≤ 52 }
 {
     let line = Line::new();
-    if fault == 15 {
-        return line.text(b" by 15: two runs on one processor share an instant");
+    match fault {
+        TickFault::Overlap => line.text(b" by 15: two runs on one processor share an instant"),
+        TickFault::Early => line.text(b" by 16: a file moves or is read before it is there"),
+        TickFault::OverLimit => line.text(b" by 17: a memory would hold more than its limit"),
     }
-    if fault == 16 {
-        return line.text(b" by 16: a file moves or is read before it is there");
-    }
-    line.text(b" by 17: a memory would hold more than its limit")
 }
 
-// How it ends after so many steps. A refusal never comes here: `show` prints it before any step. Fails where that cannot be written.
+// How it ends after so many steps. Fails where that cannot be written.
 fn print_end(rt: &impl Print, progress: Progress, made: u64) -> Result<()> {
     let line = Line::new().end(rt);
     match progress {
-        Progress::Refused { number, place } => line.ok,
         Progress::StepsLeft => line
             .text(b"steps made: ")
             .number(made)
             .text(b"; more are left")
             .end(rt)
             .ok,
-        Progress::Stopped { number, tick } => {
+        Progress::Stopped { fault, tick } => {
             let stop = line.text(b"stopped at tick ").number(tick);
             let column = stop.used;
-            stop.item(rt, reason(number), column, 2).end(rt).ok
+            stop.item(rt, reason(fault), column, 2).end(rt).ok
         }
         Progress::Ended { span } => line.text(b"ended: the span is ").number(span).end(rt).ok,
     }
@@ -112,7 +109,9 @@ fn print_steps<'a>(
     let mut progress = first.progress;
     let mut shown: u64 = 0;
     while shown < steps {
-        let next = frames::simulate(sheet, paper, made, 1);
+        let Ok(next) = frames::simulate(sheet, paper, made, 1) else {
+            return Line::new().end(rt).ok;
+        };
         progress = next.progress;
         if next.made <= made {
             return print_end(rt, progress, made);
@@ -153,10 +152,8 @@ pub fn show<'a>(
     let InstanceRead::Accepted(shape) = instance::read(sheet, &mut job) else {
         return print_marks(rt, sheet, paper);
     };
-    let first = frames::simulate(sheet, paper, made, 0);
-    let progress = first.progress;
-    if let Progress::Refused { number, place } = progress {
+    let Ok(first) = frames::simulate(sheet, paper, made, 0) else {
         return print_marks(rt, sheet, paper);
-    }
+    };
     print_trace(rt, sheet, paper, shape, &job, first, steps)
 }

@@ -4,6 +4,8 @@
 pub mod StepLaws
 -- the instance and the schedule of the arrays, by index
 pub mod LayoutLaws
+-- the counts and the limits of a job's instance
+pub mod JobLaws
 -- the holds of a file and of a task's working memory, from what the accessors read
 pub mod HoldLaws
 -- the arrays after a write

@@ -5,3 +5,4 @@ pub mod Costs
 pub mod Holds
 pub mod Claims
 pub mod Jobs
+pub mod Ticks

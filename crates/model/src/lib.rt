@@ -9,6 +9,7 @@ pub mod job;
 pub mod layout;
 pub mod residency;
 pub mod span;
+pub mod tick;
 pub mod timetable;
 pub mod totals;
 pub mod trial;

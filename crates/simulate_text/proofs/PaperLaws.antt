@@ -5,18 +5,15 @@ use mathlib.Core.Path.{◌≡◌, sym, ap, ◌∙◌}
 use Rattle.rules.specs.Limits.{max_steps}
 use Rattle.rules.specs.Model.{Instance, Schedule}
 use Rattle.rules.specs.Promises.{WellFormed, Spellable}
-use Rattle.rules.specs.Text.{in_timetable, fault_number}
 use Rattle.rules.specs.ScheduleText.{read_schedule}
-use Rattle.rules.specs.Simulation.{Simulation, watch, refused_text, simulate_read, simulate_on}
+use Rattle.rules.specs.Simulation.{Simulation, watch, simulate_read, simulate_on}
 use Rattle.rules.proofs.SimulatorLaws.{watch-capped}
-use Rattle.rules.specs.declared.refusal.Fault.{Fault}
-use Rattle.rules.specs.Refusals.{as_fault}
 use Rattle.model.specs.declared.claim.Claim.{Claim}
 use Rattle.model.specs.Claims.{as_claim}
 use Rattle.schedule.specs.declared.reader.ScheduleRead.{ScheduleRead}
 use Rattle.schedule.specs.declared.reader.ScheduleRead.TheVariants as PaperRead
 use Rattle.schedule.specs.Reading.{as_read}
-use Rattle.schedule.proofs.ReadLaws.{was_read, was-refused}
+use Rattle.schedule.proofs.ReadLaws.{was_read}
 
 module _ (I : Instance) (timetable : List ℕ) (P : Schedule) (r : ScheduleRead) (read : as_read P r ≡ read_schedule I timetable) (made steps : ℕ) where
   pub paper-watched : WellFormed I → {c : Claim} → r ≡ PaperRead.Read c → Spellable I P (as_claim c) → {n : ℕ} {a : Simulation}
@@ -24,7 +21,3 @@ module _ (I : Instance) (timetable : List ℕ) (P : Schedule) (r : ScheduleRead)
   paper-watched W {c} e s p q =
       q ∙ ap (watch I P) p ∙ sym (watch-capped I W P (as_claim c) s made steps)
       ∙ sym (ap (λ x. simulate_read I x made steps) (was_read I timetable P r read e))
-
-  pub paper-refused : {f : Fault} {k n : ℕ} {a : Simulation} → r ≡ PaperRead.Refused f k → n ≡ fault_number in_timetable (as_fault f) → a ≡ refused_text n k
-      → a ≡ simulate_on I timetable made steps
-  paper-refused e p q = q ∙ rw p (sym (ap (λ x. simulate_read I x made steps) (was-refused I timetable P r read e)))

@@ -5,13 +5,13 @@ ghost use Rattle.std.specs.Prelude.{◌≡◌, ◌+◌, min};
 ghost use Rattle.rules.specs.Limits.{max_steps};
 ghost use Rattle.rules.specs.Promises.{WellFormed};
 ghost use Rattle.rules.specs.Simulation.{simulate_on};
-ghost use Rattle.model.specs.Layout.{instance_of};
-ghost use Rattle.simulator.specs.Answers.{as_simulation};
+ghost use Rattle.model.specs.Jobs.{instance_in};
+ghost use Rattle.simulator.specs.Answers.{as_answer};
 
-use model::choice::lesser;
-use model::layout;
-use model::layout::Shape;
-use rules::Board;
+use model::job::Job;
+use model::layout::Schedule;
+use model::timetable::Timetable;
+use rules::{Board, Refusal};
 use schedule::ScheduleRead;
 use simulator::answer::Simulation;
 use simulator::walk::watch;
@@ -21,26 +21,23 @@ use simulator::walk::watch;
 fn wanted_steps(made: u64, steps: u64) -> u64
     ensures { result ≡ min made max_steps + min steps max_steps }
 {
-    lesser(made, Board::MAX_STEPS) + lesser(steps, Board::MAX_STEPS)
+    made.min(Board::MAX_STEPS) + steps.min(Board::MAX_STEPS)
 }
 
 // Simulates a timetable on the instance of an accepted board sheet.
-pub fn simulate_paper<'a>(
-    shape: Shape,
-    job: &'a layout::Numbers,
-    paper: &'a [u8],
-    made: u64,
-    steps: u64,
-) -> Simulation
-    requires { WellFormed (instance_of shape job.now) }
-    ensures { as_simulation result ≡ simulate_on (instance_of shape job.now) paper.now made steps }
+pub fn simulate_paper(job: &Job, paper: &[u8], made: u64, steps: u64) -> Result<Simulation, Refusal>
+    requires { WellFormed (instance_in job.now) }
+    ensures { as_answer result ≡ simulate_on (instance_in job.now) paper.now made steps }
 {
-    let wanted = wanted_steps(made, steps);
-    let mut schedule = layout::Schedule::new();
-    match schedule::read(shape, job, paper, &mut schedule) {
-        ScheduleRead::Refused(fault, line) => {
-            Simulation::refused(text::timetable_number(fault), line)
+    let mut schedule = Schedule::new();
+    match schedule::read(job.shape, job.numbers, paper, &mut schedule) {
+        ScheduleRead::Refused(fault, line) => Err(Refusal::Timetable(fault, line)),
+        ScheduleRead::Read(_) => {
+            let timetable = Timetable {
+                job: *job,
+                schedule: &schedule,
+            };
+            Ok(watch(&timetable, wanted_steps(made, steps)))
         }
-        ScheduleRead::Read(claim) => watch(shape, job, &schedule, wanted),
     }
 }

@@ -6,30 +6,25 @@ use mathlib.Core.Logic.{◌≢◌}
 use native.Mathlib.Omega.{arith}
 use native.Mathlib.Decide.{dec_le}
 use lib.Dec.{leb, ltb, eqb}
-use borrow.Author.Tests.{leb-true, le-leb, lt-leb, le-ltb, eqb-true, eq-eqb, ne_eqb}
+use borrow.Author.Tests.{leb-true, le-leb, lt-ltb, le-ltb, eqb-true, eq-eqb}
 use Rattle.rules.specs.Count.{any_below}
 use Rattle.rules.specs.Model.{blue, red, Instance, limit_of, task_count, file_count, Schedule, run_at, start_at, finish_at, made_at}
 use Rattle.rules.specs.Residency.{held}
 use Rattle.rules.specs.Validity.{overlap, over}
-use Rattle.rules.specs.Simulation.{shares_from, task_shares, shares_at, read_at, file_early, early_at, fault_at}
+use Rattle.rules.specs.Simulation.{shares_from, task_shares, shares_at, read_at, file_early, early_at}
 use Rattle.rules.proofs.Tests.{same_test, and-true, and-swap, eqb-sym}
 use Rattle.rules.proofs.CountLaws.{any_some, any_found}
 use Rattle.rules.proofs.ValidLaws.{more-over}
 use Rattle.runs.specs.Scan.{overlapping}
 use Rattle.runs.specs.declared.Run.{Run}
-use Rattle.model.specs.declared.layout.Shape.{Shape}
-use Rattle.model.specs.declared.colour.Colour.TheVariants.{Blue, Red}
 use Rattle.model.specs.declared.residency.FileTimes.{FileTimes}
 use Rattle.model.specs.declared.residency.Transfer.{Transfer}
 use Rattle.model.specs.Holds.{TransferOf, TimesOf}
-use Rattle.model.specs.Layout.{Job, Entries, Bounds, instance_from, schedule_from}
 use Rattle.std.specs.Prelude.{Option, Some, None}
 use Rattle.validator.specs.Early.{arrival}
-use Rattle.model.proofs.LayoutLaws.{task-count, file-count, start-at, limit-of}
 use Rattle.validator.specs.Records.{record_at}
 use Rattle.validator.proofs.OverlapLaws.{overlap-self, overlap-records}
-use Rattle.simulator.specs.Faults.{begun_overlaps, overlaps_begun, starts_overlapping, departs_early, early_by}
-use Rattle.simulator.proofs.AnyLaws.{any-yes, any-over}
+use Rattle.simulator.specs.Faults.{begun_overlaps, starts_overlapping, departs_early, early_by}
 
 -- ---- 15
 
@@ -96,87 +91,16 @@ module _ (I : Instance) (P : Schedule) where
     pub early-times : (k : ℕ) (x : FileTimes) → TimesOf I P k x → early_by x t ≡ file_early I P t k
     early-times k x times = rw (times.made, times.starts) (early-by k x.transfer times.transfer)
 
-    -- ---- the fault, in their order
-
-    module _ {a : Bool} (p : a ≡ shares_at I P t) where
-      pub by-overlap : a ≡ true → 15 ≡ fault_at I P t
-      unfolding fault_at
-      by-overlap e = rw (← p, e)
-
-      module _ (n : a ≡ false) {b : Bool} (q : b ≡ early_at I P t) where
-        pub by-early : b ≡ true → 16 ≡ fault_at I P t
-        unfolding fault_at
-        by-early e = rw (← p, n, ← q, e)
-
-        module _ (m : b ≡ false) {d : Bool} (w : d ≡ over I P t) where
-          pub by_over : d ≡ true → 17 ≡ fault_at I P t
-          unfolding fault_at
-          by_over e = rw (← p, n, ← q, m, ← w, e)
-
-          pub by-none : d ≡ false → 0 ≡ fault_at I P t
-          unfolding fault_at
-          by-none e = rw (← p, n, ← q, m, ← w, e)
-
--- ---- tests of what is known
-
--- both of two tests
-module _ {a b : Bool} (e : a ≡ b) where
-  pub both_rest : a ≡ true → (c : Bool) → c ≡ b && c
-  both_rest h c = rw (← e, h)
-
-  pub both-not : a ≡ false → (c : Bool) → false ≡ b && c
-  both-not h c = rw (← e, h)
-
--- ---- what the accessors read, and the loops
-
-module _ (b : Shape) (J : Job) (L : Entries) where
-  abbrev inst : Instance
-  inst = instance_from b J
-
-  abbrev plan : Schedule
-  plan = schedule_from b L
-
-  start_is : {i s : ℕ} → i < b.tasks → s ≡ L.start i → start_at plan i ≡ s
-  start_is {i} h e = start-at b L i h ∙ sym e
-
-  pub begun-yes : (t i : ℕ) {j s : ℕ} → j < b.tasks → s ≡ L.start j → s ≤ t → {r : Bool} → r ≡ overlap inst plan i j → r ≡ begun_overlaps inst plan t i j
-  begun-yes t i {s = s} h e l g = rw (start_is h e, le-leb s t l) g
-
-  pub begun-no : (t i : ℕ) {j s : ℕ} → j < b.tasks → s ≡ L.start j → t < s → false ≡ begun_overlaps inst plan t i j
-  begun-no t i {s = s} h e l = rw (start_is h e, lt-leb s t l)
-
-  pub starts-yes : (t : ℕ) {i s : ℕ} → i < b.tasks → s ≡ L.start i → s ≡ t → {r : Bool} → r ≡ overlaps_begun inst plan t i → r ≡ starts_overlapping inst plan t i
-  starts-yes t {s = s} h e l g = rw (start_is h e, eq-eqb s t l) g
-
-  pub starts-no : (t : ℕ) {i s : ℕ} → i < b.tasks → s ≡ L.start i → s ≢ t → false ≡ starts_overlapping inst plan t i
-  starts-no t {s = s} h e l = rw (start_is h e, ne_eqb s t l)
-
-  pub tasks-yes : (p : ℕ → Bool) {i : ℕ} → i < b.tasks → {x : Bool} → x ≡ p i → x ≡ true → true ≡ any_below (task_count inst) p
-  tasks-yes p h = any-yes p (omega (arith, task-count b J))
-
-  pub files-yes : (p : ℕ → Bool) {i : ℕ} → i < b.files → {x : Bool} → x ≡ p i → x ≡ true → true ≡ any_below (file_count inst) p
-  files-yes p h = any-yes p (omega (arith, file-count b J))
-
-  pub tasks-over : (p : ℕ → Bool) {n : ℕ} → n ≡ b.tasks → any_below n p ≡ false → false ≡ any_below (task_count inst) p
-  tasks-over p e = any-over p (e ∙ sym (task-count b J))
-
-  pub files-over : (p : ℕ → Bool) {n : ℕ} → n ≡ b.files → any_below n p ≡ false → false ≡ any_below (file_count inst) p
-  files-over p e = any-over p (e ∙ sym (file-count b J))
-
 -- ---- 17
 
-over-is : (I : Instance) (P : Schedule) (t : ℕ) {l m x y : ℕ} → l ≡ limit_of I blue → m ≡ limit_of I red → x ≡ held I P blue t → y ≡ held I P red t
-    → (ltb l x || ltb m y) ≡ over I P t
+over-is : (I : Instance) (P : Schedule) (t : ℕ) {l m x y : ℕ} → limit_of I blue ≡ l → limit_of I red ≡ m → x ≡ held I P blue t → y ≡ held I P red t
+    → ltb l x || ltb m y ≡ over I P t
 unfolding over
-over-is I P t p q r s = rw (p, q, r, s)
+over-is I P t p q r s = rw (sym p, sym q, r, s)
 
-module _ {b : Shape} {J : Job} {L : Entries} (f : Bounds b J L) where
-  pub over_yes : (t : ℕ) {x : ℕ} → x ≡ held (instance_from b J) (schedule_from b L) blue t → b.board.blue.limit < x
-      → true ≡ over (instance_from b J) (schedule_from b L) t
-  over_yes t {x} e l = sym (more-over (instance_from b J) (schedule_from b L) t blue (omega (arith, limit-of b J Blue)))
+module _ (I : Instance) (P : Schedule) (t : ℕ) {l x : ℕ} (p : limit_of I blue ≡ l) (r : x ≡ held I P blue t) where
+  pub over_yes : l < x → ltb l x ≡ over I P t
+  over_yes h = lt-ltb l x h ∙ sym (more-over I P t blue (omega arith))
 
-  pub over-rest : (t : ℕ) {x y : ℕ} → x ≡ held (instance_from b J) (schedule_from b L) blue t → x ≤ b.board.blue.limit
-      → y ≡ held (instance_from b J) (schedule_from b L) red t → ltb b.board.red.limit y ≡ over (instance_from b J) (schedule_from b L) t
-  over-rest t {x} {y} e l g =
-      let z = over-is (instance_from b J) (schedule_from b L) t (sym (limit-of b J Blue)) (sym (limit-of b J Red)) e g in
-      rw (le-ltb b.board.blue.limit x l) at z
+  pub over-rest : x ≤ l → {m y : ℕ} → limit_of I red ≡ m → y ≡ held I P red t → ltb m y ≡ over I P t
+  over-rest h q s = rw (le-ltb l x h) at (over-is I P t p q r s)

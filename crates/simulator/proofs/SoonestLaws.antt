@@ -1,78 +1,60 @@
--- The laws of `Soonest`: of one tick, of either of two tests, of a test that never holds; and the next turn by it.
-use Prim.Native.Nat.{ℕ, ◌+◌, ◌≤◌, ◌<◌, min}
-use mathlib.Core.Bool.{Bool, true, false, ◌||◌}
-use mathlib.Core.Path.{◌≡◌, refl, sym, ◌∙◌}
-use native.Mathlib.Numerals.{add-one}
-use native.Mathlib.Omega.{arith}
+-- The laws of `Soonest`: of one tick, of either of two tests, of a test that never holds.
+use Rattle.std.proofs.Common.{ℕ, ◌+◌, ◌≤◌, ◌<◌, ◌≡◌, ◌∙◌, refl, sym, min, Bool, true, false, ◌||◌, eqb, Option, Some, None, add-one, arith}
 use native.Mathlib.Decide.{dec_le}
-use lib.Dec.{eqb}
 use borrow.Author.Tests.{eqb-true, eq-eqb}
 use Rattle.rules.specs.Count.{any_below}
 use Rattle.rules.proofs.Tests.{clash, or_right, by-or}
 use Rattle.model.specs.Layout.{last_tick}
+use Rattle.model.specs.Ticks.{sooner}
 use Rattle.model.proofs.StepLaws.{any-empty}
-use Rattle.simulator.specs.Turns.{no_tick, Soonest}
+use Rattle.simulator.specs.Turns.{SoonestAt, Soonest}
 
 -- one tick
-module _ (from t : ℕ) (b : t ≤ last_tick) where
-  at_most : (u : ℕ) → eqb t u ≡ true → u ≤ last_tick
-  at_most u e = omega (arith, eqb-true t u e)
+pub soonest-at : (from t : ℕ) → t ≤ last_tick → from ≤ t → SoonestAt (λ u. eqb t u) from t
+soonest-at from t b l = record { within = b; after = l; holds = eq-eqb t t refl; least = λ u h e. omega (arith, eqb-true t u e) }
 
-  pub soonest-at : from ≤ t → Soonest (λ u. eqb t u) from t
-  soonest-at l = record {
-    within = at_most;
-    bound = omega arith;
-    found = λ h. (l, eq-eqb t t refl);
-    least = λ u h e. omega (arith, eqb-true t u e);
-  }
-
-  pub soonest-past : {r : ℕ} → r ≡ no_tick → t < from → Soonest (λ u. eqb t u) from r
-  soonest-past z l = record {
-    within = at_most;
-    bound = omega arith;
-    found = λ h. absurd (omega arith);
-    least = λ u h e. absurd (omega (arith, eqb-true t u e));
-  }
+pub soonest-past : (from t : ℕ) → t < from → (u : ℕ) → from ≤ u → eqb t u ≡ true → ⊥
+soonest-past from t l u h e = omega (arith, eqb-true t u e)
 
 -- a test that never holds
-pub soonest-none : (p : ℕ → Bool) → ((u : ℕ) → p u ≡ false) → (from : ℕ) {r : ℕ} → r ≡ no_tick → Soonest p from r
-soonest-none p none from z = record {
-  within = λ u e. clash e (none u);
-  bound = omega arith;
-  found = λ h. absurd (omega arith);
-  least = λ u h e. clash e (none u);
-}
+pub soonest-none : (p : ℕ → Bool) → ((u : ℕ) → p u ≡ false) → (from : ℕ) → Soonest p from None
+soonest-none p none from u h e = clash e (none u)
 
 -- a test that says the same
-pub soonest-same : {p q : ℕ → Bool} → ((u : ℕ) → p u ≡ q u) → {from r : ℕ} → Soonest p from r → Soonest q from r
-soonest-same same s = record {
-  within = λ u e. s.within u (same u ∙ e);
-  bound = s.bound;
-  found = λ h. ((s.found h).0, sym (same _) ∙ (s.found h).1);
-  least = λ u h e. s.least u h (same u ∙ e);
-}
+pub soonest-same : {p q : ℕ → Bool} → ((u : ℕ) → p u ≡ q u) → (from : ℕ) (o : Option ℕ) → Soonest p from o → Soonest q from o
+soonest-same same from None s = λ u h e. s u h (same u ∙ e)
+soonest-same same from (Some r) s = record { within = s.within; after = s.after; holds = sym (same r) ∙ s.holds; least = λ u h e. s.least u h (same u ∙ e) }
 
 -- either of two tests
-module _ {p q : ℕ → Bool} {from a b r : ℕ} (e : r ≡ min a b) (x : Soonest p from a) (y : Soonest q from b) where
-  found-either : r ≤ last_tick → (from ≤ r) × (p r || q r ≡ true)
-  found-either h = elim (dec_le a b) [
-    | yes l ↦
-        let z : r ≡ a = omega arith in
-        let f = x.found (omega arith) in
-        rw z (f.0, rw f.1)
-    | no l ↦
-        let z : r ≡ b = omega arith in
-        let f = y.found (omega arith) in
-        rw z (f.0, or_right (p b) (q b) f.1)
-  ]
+module _ (p q : ℕ → Bool) (from : ℕ) where
+  either-at : (a b : ℕ) → SoonestAt p from a → SoonestAt q from b → SoonestAt (λ u. p u || q u) from (min a b)
+  either-at a b x y =
+      let least : (u : ℕ) → from ≤ u → p u || q u ≡ true → min a b ≤ u =
+      λ u l h. by-or (p u) (q u) h (λ g. omega (arith, x.least u l g)) (λ g. omega (arith, y.least u l g)) in
+      elim (dec_le a b) [
+        | yes l ↦
+            let z : min a b ≡ a = omega arith in
+            record { within = rw z x.within; after = rw z x.after; holds = rw (z, x.holds); least = least }
+        | no l ↦
+            let z : min a b ≡ b = omega arith in
+            record { within = rw z y.within; after = rw z y.after; holds = rw z (or_right (p b) (q b) y.holds); least = least }
+      ]
 
-  pub soonest-or : Soonest (λ u. p u || q u) from r
-  soonest-or = record {
-    within = λ u h. by-or (p u) (q u) h (x.within u) (y.within u);
-    bound = omega (arith, x.bound);
-    found = found-either;
-    least = λ u l h. by-or (p u) (q u) h (λ g. omega (arith, x.least u l g)) (λ g. omega (arith, y.least u l g));
+  pub soonest-or : (a b : Option ℕ) → Soonest p from a → Soonest q from b → Soonest (λ u. p u || q u) from (sooner a b)
+  soonest-or (Some a) (Some b) x y = either-at a b x y
+  soonest-or (Some a) None x y = record {
+    within = x.within;
+    after = x.after;
+    holds = rw x.holds;
+    least = λ u l h. by-or (p u) (q u) h (x.least u l) (λ g. absurd (y u l g));
   }
+  soonest-or None (Some b) x y = record {
+    within = y.within;
+    after = y.after;
+    holds = or_right (p b) (q b) y.holds;
+    least = λ u l h. by-or (p u) (q u) h (λ g. absurd (x u l g)) (y.least u l);
+  }
+  soonest-or None None x y = λ u l h. by-or (p u) (q u) h (x u l) (y u l)
 
 -- ---- over the indices below a bound
 
@@ -81,9 +63,9 @@ unfolding any_below
 any-more p n = rw (add-one n)
 
 module _ (p : ℕ → ℕ → Bool) (from : ℕ) where
-  pub soonest-begins : {r : ℕ} → r ≡ no_tick → Soonest (λ u. any_below 0 (p u)) from r
+  pub soonest-begins : Soonest (λ u. any_below 0 (p u)) from None
   soonest-begins = soonest-none _ (λ u. any-empty (p u)) from
 
-  pub soonest-next : (n : ℕ) {a b r : ℕ} → r ≡ min a b → Soonest (λ u. any_below n (p u)) from a → Soonest (λ u. p u n) from b
-      → Soonest (λ u. any_below (n + 1) (p u)) from r
-  soonest-next n e x y = soonest-same (λ u. any-more (p u) n) (soonest-or e x y)
+  pub soonest-next : (n : ℕ) (a b : Option ℕ) → Soonest (λ u. any_below n (p u)) from a → Soonest (λ u. p u n) from b
+      → Soonest (λ u. any_below (n + 1) (p u)) from (sooner a b)
+  soonest-next n a b x y = soonest-same (λ u. any-more (p u) n) from (sooner a b) (soonest-or (λ u. any_below n (p u)) (λ u. p u n) from a b x y)

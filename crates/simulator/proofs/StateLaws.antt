@@ -1,27 +1,19 @@
 -- The state of a tick, by what the code reads and writes.
-use Prim.Native.Nat.{ℕ, suc, ◌+◌, ◌≤◌, ◌<◌}
+use Prim.Native.Nat.{ℕ, suc, ◌+◌, ◌<◌}
 use mathlib.Core.Bool.{Bool, true, false}
 use mathlib.Core.List.{List}
 use mathlib.Core.Path.{◌≡◌, sym, ◌∙◌}
-use mathlib.Core.Logic.{◌≢◌}
 use native.Mathlib.Numerals.{add-one}
 use native.Mathlib.Omega.{arith}
 use native.Mathlib.Decide.{ℕ_discrete}
-use lib.Dec.{ltb}
 use lib.ListN.{length, get_or, set}
 use lib.Seq.{get_or-set_same, get_or-set_other, ext_get_or}
-use borrow.Author.Tests.{lt-ltb, le-ltb, le-leb, lt-leb, eq-eqb, ne_eqb}
+use borrow.Author.Tests.{lt-ltb}
 use Rattle.rules.specs.Count.{any_below, first_below, list_below}
 use Rattle.rules.specs.Limits.{all_processors, max_files}
-use Rattle.rules.specs.Model.{blue, red, Instance, task_count, Schedule, run_at, start_at, finish_at}
-use Rattle.rules.specs.Residency.{covers, hold_of}
-use Rattle.rules.specs.Simulation.{occupies, running_on, memory_number, held_in, state_at}
+use Rattle.rules.specs.Model.{Instance, task_count, Schedule}
+use Rattle.rules.specs.Simulation.{occupies, running_on, held_in, state_at}
 use Rattle.rules.proofs.CountLaws.{any_none, first-passed, none_first, length-list_below, get_or-list_below}
-use Rattle.model.specs.declared.layout.Shape.{Shape}
-use Rattle.model.specs.declared.residency.Hold.{Hold}
-use Rattle.model.specs.Holds.{as_hold}
-use Rattle.model.specs.Layout.{Job, Entries, instance_from, schedule_from}
-use Rattle.model.proofs.LayoutLaws.{task-count, file-count, processor-at, start-at}
 
 -- ---- an array that is filled by index
 
@@ -64,46 +56,3 @@ module _ (I : Instance) (P : Schedule) (t : ℕ) where
     pub runs_none : any_below (task_count I) (occupies I P p t) ≡ false → 0 ≡ running_on I P t p
     unfolding running_on
     runs_none none = rw (none_first (task_count I) (occupies I P p t) (any_none (task_count I) (occupies I P p t) none))
-
-module _ (b : Shape) (J : Job) (L : Entries) (t : ℕ) where
-  abbrev I : Instance
-  I = instance_from b J
-
-  abbrev P : Schedule
-  P = schedule_from b L
-
-  module _ {i : ℕ} (h : i < b.tasks) {q : ℕ} (e : q ≡ L.processor i) where
-    processor-is : (run_at P i).processor ≡ q
-    processor-is = processor-at b L i h ∙ sym e
-
-    pub elsewhere : {p : ℕ} → q ≢ p → false ≡ occupies I P p t i
-    elsewhere {p} d = rw (processor-is, ne_eqb q p d)
-
-    module _ {s : ℕ} (z : s ≡ L.start i) where
-      start_is : start_at P i ≡ s
-      start_is = start-at b L i h ∙ sym z
-
-      pub not-begun : {p : ℕ} → q ≡ p → t < s → false ≡ occupies I P p t i
-      not-begun {p} g l = rw (processor-is, eq-eqb q p g, start_is, lt-leb s t l)
-
-      pub begun : {p : ℕ} → q ≡ p → s ≤ t → {f : ℕ} → f ≡ finish_at I P i → ltb t f ≡ occupies I P p t i
-      begun {p} g l w = rw (eq-eqb (run_at P i).processor p (processor-is ∙ g), le-leb (start_at P i) t (omega (arith, start_is)), w)
-
-  pub found-on : (p : ℕ) {i : ℕ} → i < b.tasks → any_below i (occupies I P p t) ≡ false → {x : Bool} → x ≡ occupies I P p t i → x ≡ true
-      → i + 1 ≡ running_on I P t p
-  found-on p {i} h = runs-found I P t p (rw (task-count b J) h)
-
-  pub none-on : (p : ℕ) {n : ℕ} → n ≡ b.tasks → any_below n (occupies I P p t) ≡ false → 0 ≡ running_on I P t p
-  none-on p e none = let m = e ∙ sym (task-count b J) in runs_none I P t p (rw m at none)
-
-  -- ---- where a file is held
-
-  module _ {k : ℕ} where
-    pub file-held : k < b.files → (x y : Hold) {a c : Bool} {r : ℕ} → as_hold x ≡ hold_of I P blue k → a ≡ covers (as_hold x) t
-        → as_hold y ≡ hold_of I P red k → c ≡ covers (as_hold y) t → r ≡ memory_number a c → r ≡ held_in I P t k
-    unfolding held_in
-    file-held h x y p q u v e = rw (file-count b J, lt-ltb k b.files h, ← p, ← q, ← u, ← v) e
-
-    pub no-file : b.files ≤ k → 0 ≡ held_in I P t k
-    unfolding held_in
-    no-file h = rw (file-count b J, le-ltb k b.files h)

@@ -13,50 +13,43 @@ use Rattle.rules.specs.Simulation.{before, state_at, state_after, is_turn, fault
 use Rattle.rules.specs.SimulationPromises.{Faulty}
 use Rattle.rules.proofs.TickFaultLaws.{is-faulty, faulty-is}
 use Rattle.rules.proofs.WalkLaws.{Walked, walk_begins, walk_steps, walk-left, walk-stops, walk_ends}
-use Rattle.simulator.specs.declared.walk.Step.{Step}
-use Rattle.simulator.specs.declared.walk.Step.TheVariants.{Onto, Barred}
-use Rattle.simulator.specs.declared.answer.Progress as Code
-use Rattle.simulator.specs.Answers.{as_progress}
-use Rattle.simulator.specs.Turns.{no_tick, Soonest}
-use Rattle.simulator.specs.Walks.{NextTurn, NoTurn, Ends, at_fault, at_end, Reaches, goes_on, is_over, Ahead, state_by}
+use Rattle.simulator.specs.declared.answer.TickFault.{TickFault}
+use Rattle.simulator.specs.declared.answer.TickFault.TheVariants.{Overlap, Early, OverLimit}
+use Rattle.simulator.specs.Answers.{fault_number}
+use Rattle.simulator.specs.Turns.{SoonestAt}
+use Rattle.simulator.specs.Walks.{NextTurn, NoTurn, Ends, at_fault, at_end, Reaches, goes_on, is_over, state_by}
 
 -- ---- what the next step does
 
-module _ (I : Instance) (P : Schedule) {from t : ℕ} (s : Soonest (is_turn I P) from t) where
-  no-turn : no_tick ≤ t → NoTurn I P from
-  no-turn h u l e = omega (arith, s.least u l e, s.within u e)
-
-  next-turn : t < no_tick → NextTurn I P from t
-  next-turn h = record {
-    first = record { holds = s.found (omega arith); least = λ m x. s.least m x.0 x.1 };
-    bound = omega arith;
+module _ (I : Instance) (P : Schedule) {from : ℕ} where
+  next-turn : (t : ℕ) → SoonestAt (is_turn I P) from t → NextTurn I P from t
+  next-turn t s = record {
+    first = record { holds = (s.after, s.holds); least = λ m x. s.least m x.0 x.1 };
+    bound = s.within;
   }
 
-  module _ (h : no_tick ≤ t) {span : ℕ} (z : span ≡ makespan I P) where
+  module _ (none : NoTurn I P from) {span : ℕ} (z : span ≡ makespan I P) where
     pub ahead-end : Ends I P from (ended span)
-    ahead-end = at_end (no-turn h) z
+    ahead-end = at_end none z
 
     pub reaches_end : Reaches I P from (ended span)
-    reaches_end = is_over (no-turn h) z
+    reaches_end = is_over none z
 
-  module _ (h : t < no_tick) where
+  module _ (t : ℕ) (s : SoonestAt (is_turn I P) from t) where
     pub reaches-turn : Reaches I P from steps_left
-    reaches-turn = goes_on t (next-turn h)
+    reaches-turn = goes_on t (next-turn t s)
 
-    module _ {f : ℕ} (e : f ≡ fault_at I P t) where
-      pub ahead-onto : f ≡ 0 → Ahead I P from (Onto t)
-      ahead-onto z = (next-turn h, sym e ∙ z)
+    pub ahead-onto : {f : ℕ} → f ≡ fault_at I P t → f ≡ 0 → NextTurn I P from t × (fault_at I P t ≡ 0)
+    ahead-onto e z = (next-turn t s, sym e ∙ z)
 
-      pub ahead-fault : f ≢ 0 → Ends I P from (stopped f t)
-      ahead-fault d = at_fault t (next-turn h) e (omega arith)
+    pub ahead-fault : {f : ℕ} → f ≡ fault_at I P t → 1 ≤ f → Ends I P from (stopped f t)
+    ahead-fault e d = at_fault t (next-turn t s) e d
 
--- a step, by its case
-module _ (I : Instance) (P : Schedule) (from : ℕ) (s : Step) (x : Ahead I P from s) where
-  pub onto-ahead : {t : ℕ} → s ≡ Onto t → NextTurn I P from t × (fault_at I P t ≡ 0)
-  onto-ahead e = rw e at x
-
-  pub barred-ahead : {p : Code.Progress} → s ≡ Barred p → Ends I P from (as_progress p)
-  barred-ahead e = rw e at x
+-- a fault has a number
+pub some-fault : (f : TickFault) → 1 ≤ fault_number f
+some-fault Overlap = omega arith
+some-fault Early = omega arith
+some-fault OverLimit = omega arith
 
 -- ---- the walk
 

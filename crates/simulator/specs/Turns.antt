@@ -1,15 +1,14 @@
 -- The soonest tick of which something holds.
-use Rattle.std.specs.Prelude.{ℕ, suc, ◌≤◌, Bool, true, ◌≡◌}
+use Rattle.std.specs.Prelude.{ℕ, ◌≤◌, Bool, true, ◌≡◌, Option, MatchOption}
 use Rattle.model.specs.Layout.{last_tick}
 
--- stands for no tick
-abbrev pub no_tick : ℕ
-no_tick = suc last_tick
-
--- r is the least tick from `from` on of which p holds; `no_tick` if there is none
-pub record Soonest (p : ℕ → Bool) (from r : ℕ) : Type 0 where
-  -- p holds of no tick that is later than the last
-  pub within : (u : ℕ) → p u ≡ true → u ≤ last_tick
-  pub bound : r ≤ no_tick
-  pub found : r ≤ last_tick → (from ≤ r) × (p r ≡ true)
+-- r is the least tick from `from` on of which p holds
+pub record SoonestAt (p : ℕ → Bool) (from r : ℕ) : Type 0 where
+  pub within : r ≤ last_tick
+  pub after : from ≤ r
+  pub holds : p r ≡ true
   pub least : (u : ℕ) → from ≤ u → p u ≡ true → r ≤ u
+
+-- that tick, if there is one
+abbrev pub Soonest : (ℕ → Bool) → ℕ → Option ℕ → Type 0
+Soonest p from o = MatchOption o ((u : ℕ) → from ≤ u → p u ≡ true → ⊥) (SoonestAt p from)

@@ -1,12 +1,11 @@
 -- What the next step does, and how a walk ends.
-use Rattle.std.specs.Prelude.{ℕ, zero, suc, ◌≤◌, true, ◌≡◌}
+use Rattle.std.specs.Prelude.{ℕ, zero, suc, ◌≤◌, true, ◌≡◌, Result, MatchResult}
 use Rattle.rules.specs.Model.{Instance, Schedule}
 use Rattle.rules.specs.Validity.{makespan}
 use Rattle.rules.specs.Promises.{First}
 use Rattle.rules.specs.Simulation.{State, before, state_at, is_turn, fault_at, Progress, steps_left, stopped, ended}
 use Rattle.model.specs.Layout.{last_tick}
-use Rattle.simulator.specs.declared.walk.Step.{Step}
-use Rattle.simulator.specs.declared.walk.Step.TheVariants.{Onto, Barred}
+use Rattle.simulator.specs.declared.answer.Progress as Code
 use Rattle.simulator.specs.Answers.{as_progress}
 
 -- t is the next turn from `from` on
@@ -29,9 +28,8 @@ pub data Reaches (I : Instance) (P : Schedule) (from : ℕ) : Progress → Type 
   is_over : {span : ℕ} → NoTurn I P from → span ≡ makespan I P → Reaches I P from (ended span)
 
 -- what the next step does from tick `from` on
-abbrev pub Ahead : Instance → Schedule → ℕ → Step → Type 0
-Ahead I P from (Onto t) = NextTurn I P from t × (fault_at I P t ≡ 0)
-Ahead I P from (Barred p) = Ends I P from (as_progress p)
+abbrev pub Ahead : Instance → Schedule → ℕ → Result ℕ Code.Progress → Type 0
+Ahead I P from r = MatchResult r (λ t. NextTurn I P from t × (fault_at I P t ≡ 0)) (λ p. Ends I P from (as_progress p))
 
 -- the state after so many steps, the last of them onto tick t
 abbrev pub state_by : Instance → Schedule → ℕ → ℕ → State

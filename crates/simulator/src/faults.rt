@@ -3,215 +3,127 @@
 ghost use Rattle.std.specs.Prelude.{◌≡◌, ◌<◌};
 ghost use Rattle.rules.specs.Validity.{overlap, over};
 ghost use Rattle.rules.specs.Simulation.{shares_at, file_early, early_at, fault_at};
-ghost use Rattle.model.specs.Layout.{instance_of, schedule_of, InBounds};
-ghost use Rattle.simulator.specs.Faults.{begun_overlaps, overlaps_begun, starts_overlapping, early_move, early_start, early_by};
+ghost use Rattle.model.specs.Jobs.{instance_in, schedule_in};
+ghost use Rattle.simulator.specs.Answers.{number_at};
+ghost use Rattle.simulator.specs.Faults.{begun_overlaps, overlaps_begun, starts_overlapping, early_move, early_by};
 
+use super::answer::TickFault;
 use model::colour::Colour;
-use model::layout;
-use model::layout::Shape;
-use model::residency::{FileTimes, file_times};
-use model::totals::held_at;
+use model::residency::FileTimes;
+use model::timetable::Timetable;
 use runs::overlapping_runs;
 use validator::exclusion::run_of;
-use validator::judgement::Verdict;
 use validator::timing::starts_early;
 
 // Whether two tasks are two, and their runs are on one processor and share an instant.
-fn overlapping_tasks<'a>(
-    shape: Shape,
-    job: &'a layout::Numbers,
-    schedule: &'a layout::Schedule,
-    i: usize,
-    j: usize,
-) -> bool
-    requires in_bounds { InBounds shape job.now schedule.now }
-    requires i_lt_tasks { (i < shape.tasks) × (j < shape.tasks) }
-    ensures { result ≡ overlap (instance_of shape job.now) (schedule_of shape schedule.now) i j }
+fn overlapping_tasks(t: &Timetable, i: usize, j: usize) -> bool
+    requires { (i < t.now.job.shape.tasks) × (j < t.now.job.shape.tasks) }
+    ensures { result ≡ overlap (instance_in t.now.job) (schedule_in t.now) i j }
 {
     if i == j {
         return false;
     }
-    overlapping_runs(
-        run_of(shape, job, schedule, i),
-        run_of(shape, job, schedule, j),
-    )
+    let shape = t.job.shape;
+    let one = run_of(shape, t.job.numbers, t.schedule, i);
+    let other = run_of(shape, t.job.numbers, t.schedule, j);
+    overlapping_runs(one, other)
 }
 
-// Whether task j's run starts by tick t and overlaps task i's.
-fn begun_overlaps<'a>(
-    shape: Shape,
-    job: &'a layout::Numbers,
-    schedule: &'a layout::Schedule,
-    t: u64,
-    i: usize,
-    j: usize,
-) -> bool
-    requires in_bounds { InBounds shape job.now schedule.now }
-    requires i_lt_tasks { (i < shape.tasks) × (j < shape.tasks) }
-    ensures { result ≡ begun_overlaps (instance_of shape job.now) (schedule_of shape schedule.now) t i j }
+// Whether task j's run starts by the tick and overlaps task i's.
+fn begun_overlaps(t: &Timetable, tick: u64, i: usize, j: usize) -> bool
+    requires { (i < t.now.job.shape.tasks) × (j < t.now.job.shape.tasks) }
+    ensures { result ≡ begun_overlaps (instance_in t.now.job) (schedule_in t.now) tick i j }
 {
-    if layout::start(schedule, j) <= t {
-        return overlapping_tasks(shape, job, schedule, i, j);
-    }
-    false
+    t.start(j) <= tick && overlapping_tasks(t, i, j)
 }
 
-// Whether task i's run overlaps one that starts by tick t.
-fn overlaps_begun<'a>(
-    shape: Shape,
-    job: &'a layout::Numbers,
-    schedule: &'a layout::Schedule,
-    t: u64,
-    i: usize,
-) -> bool
-    requires in_bounds { InBounds shape job.now schedule.now }
-    requires i_lt_tasks { i < shape.tasks }
-    ensures { result ≡ overlaps_begun (instance_of shape job.now) (schedule_of shape schedule.now) t i }
+// Whether task i's run overlaps one that starts by the tick.
+fn overlaps_begun(t: &Timetable, tick: u64, i: usize) -> bool
+    requires { i < t.now.job.shape.tasks }
+    ensures { result ≡ overlaps_begun (instance_in t.now.job) (schedule_in t.now) tick i }
 {
-    let mut j: usize = 0;
-    while j < shape.tasks {
-        if begun_overlaps(shape, job, schedule, t, i, j) {
+    for j in 0..t.job.shape.tasks {
+        if begun_overlaps(t, tick, i, j) {
             return true;
         }
-        j += 1;
     }
     false
 }
 
-// Whether task i's run starts at tick t and overlaps one that starts by then: most runs start at another tick, and cost no look at the others.
-fn starts_overlapping<'a>(
-    shape: Shape,
-    job: &'a layout::Numbers,
-    schedule: &'a layout::Schedule,
-    t: u64,
-    i: usize,
-) -> bool
-    requires in_bounds { InBounds shape job.now schedule.now }
-    requires i_lt_tasks { i < shape.tasks }
-    ensures { result ≡ starts_overlapping (instance_of shape job.now) (schedule_of shape schedule.now) t i }
+// Whether task i's run starts at the tick and overlaps one that starts by then: most runs start at another tick, and cost no look at the others.
+fn starts_overlapping(t: &Timetable, tick: u64, i: usize) -> bool
+    requires { i < t.now.job.shape.tasks }
+    ensures { result ≡ starts_overlapping (instance_in t.now.job) (schedule_in t.now) tick i }
 {
-    if layout::start(schedule, i) == t {
-        return overlaps_begun(shape, job, schedule, t, i);
-    }
-    false
+    t.start(i) == tick && overlaps_begun(t, tick, i)
 }
 
-// 15: whether two runs on one processor share an instant, and tick t is the later of their starts.
-fn shares_at<'a>(
-    shape: Shape,
-    job: &'a layout::Numbers,
-    schedule: &'a layout::Schedule,
-    t: u64,
-) -> bool
-    requires { InBounds shape job.now schedule.now }
-    ensures { result ≡ shares_at (instance_of shape job.now) (schedule_of shape schedule.now) t }
+// 15: whether two runs on one processor share an instant, and the tick is the later of their starts.
+fn shares_at(t: &Timetable, tick: u64) -> bool
+    ensures { result ≡ shares_at (instance_in t.now.job) (schedule_in t.now) tick }
 {
-    let mut i: usize = 0;
-    while i < shape.tasks {
-        if starts_overlapping(shape, job, schedule, t, i) {
+    for i in 0..t.job.shape.tasks {
+        if starts_overlapping(t, tick, i) {
             return true;
         }
-        i += 1;
     }
     false
 }
 
-// Whether tick t is the start of a move of a file that is not made by then.
-fn moves_early_at(times: FileTimes, t: u64) -> bool
-    ensures { result ≡ early_move times t }
+// Whether the tick is the start of a move of a file that is not made by then.
+fn moves_early_at(times: FileTimes, tick: u64) -> bool
+    ensures { result ≡ early_move times tick }
 {
-    times.transfer.is_some_and(|transfer| transfer.departs < times.made && transfer.departs == t)
+    times.transfer.is_some_and(|transfer| transfer.departs < times.made && transfer.departs == tick)
 }
 
-// Whether tick t is the start of a reader whose file has not arrived by then.
-fn starts_early_at(times: FileTimes, t: u64) -> bool
-    ensures { result ≡ early_start times t }
+// Whether the tick is an early move of a file with these times, or the start of its reader before it has arrived.
+fn early_by(times: FileTimes, tick: u64) -> bool
+    ensures { result ≡ early_by times tick }
 {
-    if starts_early(times) {
-        return times.starts == t;
-    }
-    false
+    moves_early_at(times, tick) || starts_early(times) && times.starts == tick
 }
 
-// Whether tick t is an early move or an early start of the file.
-fn early_by(times: FileTimes, t: u64) -> bool
-    ensures { result ≡ early_by times t }
+// Whether the tick is an early move or an early start of file k.
+fn file_early(t: &Timetable, tick: u64, k: usize) -> bool
+    requires { k < t.now.job.shape.files }
+    ensures { result ≡ file_early (instance_in t.now.job) (schedule_in t.now) tick k }
 {
-    if moves_early_at(times, t) {
-        return true;
-    }
-    starts_early_at(times, t)
+    early_by(t.file_times(k), tick)
 }
 
-// Whether tick t is an early move or an early start of file k.
-fn file_early<'a>(
-    shape: Shape,
-    job: &'a layout::Numbers,
-    schedule: &'a layout::Schedule,
-    t: u64,
-    k: usize,
-) -> bool
-    requires in_bounds { InBounds shape job.now schedule.now }
-    requires k_lt_files { k < shape.files }
-    ensures { result ≡ file_early (instance_of shape job.now) (schedule_of shape schedule.now) t k }
+// 16: whether the tick is an early move or an early start.
+fn early_at(t: &Timetable, tick: u64) -> bool
+    ensures { result ≡ early_at (instance_in t.now.job) (schedule_in t.now) tick }
 {
-    early_by(file_times(shape, job, schedule, k), t)
-}
-
-// 16: whether tick t is an early move or an early start.
-fn early_at<'a>(
-    shape: Shape,
-    job: &'a layout::Numbers,
-    schedule: &'a layout::Schedule,
-    t: u64,
-) -> bool
-    requires { InBounds shape job.now schedule.now }
-    ensures { result ≡ early_at (instance_of shape job.now) (schedule_of shape schedule.now) t }
-{
-    let mut i: usize = 0;
-    while i < shape.files {
-        if file_early(shape, job, schedule, t, i) {
+    for k in 0..t.job.shape.files {
+        if file_early(t, tick, k) {
             return true;
         }
-        i += 1;
     }
     false
 }
 
-// Whether a memory is over its limit at tick t: what is held then is counted, by the definition.
-fn over_at<'a>(
-    shape: Shape,
-    job: &'a layout::Numbers,
-    schedule: &'a layout::Schedule,
-    t: u64,
-) -> bool
-    requires { InBounds shape job.now schedule.now }
-    ensures { result ≡ over (instance_of shape job.now) (schedule_of shape schedule.now) t }
+// Whether a memory is over its limit at the tick: what is held then is counted, by the definition.
+fn over_at(t: &Timetable, tick: u64) -> bool
+    ensures { result ≡ over (instance_in t.now.job) (schedule_in t.now) tick }
 {
-    if shape.board.blue.limit < held_at(shape, job, schedule, Colour::Blue, t) {
-        return true;
-    }
-    shape.board.red.limit < held_at(shape, job, schedule, Colour::Red, t)
+    let board = t.job.shape.board;
+    board.blue.limit < t.held_at(Colour::Blue, tick)
+        || board.red.limit < t.held_at(Colour::Red, tick)
 }
 
-// The fault of tick t: 15, 16 or 17 in this order, or 0.
-pub fn fault_at<'a>(
-    shape: Shape,
-    job: &'a layout::Numbers,
-    schedule: &'a layout::Schedule,
-    t: u64,
-) -> u64
-    requires { InBounds shape job.now schedule.now }
-    ensures { result ≡ fault_at (instance_of shape job.now) (schedule_of shape schedule.now) t }
+// The fault of the tick: 15, 16 or 17 in this order, if it has one.
+pub fn fault_at(t: &Timetable, tick: u64) -> Option<TickFault>
+    ensures { number_at result ≡ fault_at (instance_in t.now.job) (schedule_in t.now) tick }
 {
-    if shares_at(shape, job, schedule, t) {
-        return Verdict::OVERLAP;
+    if shares_at(t, tick) {
+        Some(TickFault::Overlap)
+    } else if early_at(t, tick) {
+        Some(TickFault::Early)
+    } else if over_at(t, tick) {
+        Some(TickFault::OverLimit)
+    } else {
+        None
     }
-    if early_at(shape, job, schedule, t) {
-        return Verdict::EARLY;
-    }
-    if over_at(shape, job, schedule, t) {
-        return Verdict::OVER_LIMIT;
-    }
-    0
 }

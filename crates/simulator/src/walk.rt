@@ -2,122 +2,76 @@
 ghost use Rattle.std.specs.Prelude.{◌≡◌};
 ghost use Rattle.rules.specs.Promises.{WellFormed};
 ghost use Rattle.rules.specs.Simulation.{watch as rules-watch};
-ghost use Rattle.model.specs.Layout.{entries_of, instance_of, schedule_of, InBounds, Placed};
+ghost use Rattle.model.specs.Jobs.{instance_in, schedule_in};
+ghost use Rattle.model.specs.Layout.{entries_of, Placed};
 ghost use Rattle.simulator.specs.Answers.{as_progress, as_simulation};
 ghost use Rattle.simulator.specs.Walks.{Ahead, Reaches, state_by};
 
 use super::answer::{Progress, Simulation};
 use super::faults::fault_at;
 use super::state::{contents_at, running_at};
-use super::turns::{NO_TICK, next_turn};
-use model::layout;
-use model::layout::Shape;
-use model::span::makespan;
+use super::turns::next_turn;
+use model::timetable::Timetable;
 
-// What the next step does: it goes to a turn, or it is not made, and that is how the walk ends.
-#[derive(Clone, Copy)]
-pub enum Step {
-    Onto(u64),
-    Barred(Progress),
-}
-
-// What the next step does from tick `from` on: the next turn, if that is not faulty.
-fn step_from<'a>(
-    shape: Shape,
-    job: &'a layout::Numbers,
-    schedule: &'a layout::Schedule,
-    from: u64,
-) -> Step
-    requires { InBounds shape job.now schedule.now }
-    ensures { Ahead (instance_of shape job.now) (schedule_of shape schedule.now) from result }
+// The tick onto which the next step goes from tick `from` on: the next turn, if that is not faulty. Else how the walk ends.
+fn step_from(t: &Timetable, from: u64) -> Result<u64, Progress>
+    ensures { Ahead (instance_in t.now.job) (schedule_in t.now) from result }
 {
-    let tick = next_turn(shape, job, schedule, from);
-    if NO_TICK <= tick {
-        let span = makespan(shape, job, schedule);
-        return Step::Barred(Progress::Ended { span });
+    match next_turn(t, from) {
+        Some(tick) => match fault_at(t, tick) {
+            Some(fault) => Err(Progress::Stopped { fault, tick }),
+            None => Ok(tick),
+        },
+        None => Err(Progress::Ended { span: t.makespan() }),
     }
-    let number = fault_at(shape, job, schedule, tick);
-    if number == 0 {
-        return Step::Onto(tick);
-    }
-    Step::Barred(Progress::Stopped { number, tick })
 }
 
 // The answer, with the state after the steps made, the last of them onto tick `time`.
-fn answer_after<'a>(
-    shape: Shape,
-    job: &'a layout::Numbers,
-    schedule: &'a layout::Schedule,
-    progress: Progress,
-    made: u64,
-    time: u64,
-) -> Simulation
-    requires { InBounds shape job.now schedule.now }
+fn answer_after(t: &Timetable, progress: Progress, made: u64, time: u64) -> Simulation
     ensures { as_simulation result ≡ record {
       progress = as_progress progress;
       made = made;
-      state = state_by (instance_of shape job.now) (schedule_of shape schedule.now) made time;
+      state = state_by (instance_in t.now.job) (schedule_in t.now) made time;
     } }
 {
     if made == 0 {
         return Simulation::before_first(progress);
     }
-    let running = running_at(shape, job, schedule, time);
-    let contents = contents_at(shape, job, schedule, time);
     Simulation {
         progress,
         made,
         time,
-        running,
-        contents,
+        running: running_at(t, time),
+        contents: contents_at(t, time),
     }
 }
 
 // How a walk ends that has made all steps wanted, with the next turn from tick `from` on, if there is one.
-fn progress_at<'a>(
-    shape: Shape,
-    job: &'a layout::Numbers,
-    schedule: &'a layout::Schedule,
-    from: u64,
-) -> Progress
-    requires { InBounds shape job.now schedule.now }
-    ensures { Reaches (instance_of shape job.now) (schedule_of shape schedule.now) from (as_progress result) }
+fn progress_at(t: &Timetable, from: u64) -> Progress
+    ensures { Reaches (instance_in t.now.job) (schedule_in t.now) from (as_progress result) }
 {
-    if next_turn(shape, job, schedule, from) < NO_TICK {
-        return Progress::StepsLeft;
+    match next_turn(t, from) {
+        Some(_) => Progress::StepsLeft,
+        None => Progress::Ended { span: t.makespan() },
     }
-    let span = makespan(shape, job, schedule);
-    Progress::Ended { span }
 }
 
 // The answer when so many steps are wanted in all.
-pub fn watch<'a>(
-    shape: Shape,
-    job: &'a layout::Numbers,
-    schedule: &'a layout::Schedule,
-    wanted: u64,
-) -> Simulation
-    requires in_bounds { InBounds shape job.now schedule.now }
-    requires placed { Placed shape (entries_of schedule.now) }
-    requires well_formed { WellFormed (instance_of shape job.now) }
-    ensures { as_simulation result ≡
-        rules-watch (instance_of shape job.now) (schedule_of shape schedule.now) wanted }
+pub fn watch(t: &Timetable, wanted: u64) -> Simulation
+    requires placed { Placed t.now.job.shape (entries_of t.now.schedule.now) }
+    requires well_formed { WellFormed (instance_in t.now.job) }
+    ensures { as_simulation result ≡ rules-watch (instance_in t.now.job) (schedule_in t.now) wanted }
 {
-    let mut made: u64 = 0;
-    let mut from: u64 = 0;
-    let mut time: u64 = 0;
-    while made < wanted {
-        match step_from(shape, job, schedule, from) {
-            Step::Barred(progress) => {
-                return answer_after(shape, job, schedule, progress, made, time);
+    let mut from = 0;
+    let mut time = 0;
+    for made in 0..wanted {
+        match step_from(t, from) {
+            Ok(tick) => {
+                from = tick + 1;
+                time = tick;
             }
-            Step::Onto(t) => {
-                made += 1;
-                from = t + 1;
-                time = t;
-            }
+            Err(progress) => return answer_after(t, progress, made, time),
         }
     }
-    let progress = progress_at(shape, job, schedule, from);
-    answer_after(shape, job, schedule, progress, made, time)
+    answer_after(t, progress_at(t, from), wanted, time)
 }

@@ -4,6 +4,7 @@ use console::{print_number, print_verdict};
 use frames::{Progress, Simulation};
 use instance::InstanceRead;
 use model::layout;
+use rules::Refusal;
 use std::io::Result;
 
 // The number of processors of a board, and of files of its sheet.
@@ -48,22 +49,33 @@ fn print_pair(rt: &impl Print, name: &[u8], m: u64, n: u64) -> Result<()> {
     rt.write_all(b")")
 }
 
-// How a call ends: a refusal by number and place, steps left, a stop by number and tick, or the end with the span.
+// How a walk ends: with steps left, a stop by number and tick, or the end with the span.
 fn print_progress(rt: &impl Print, progress: Progress) -> Result<()> {
     match progress {
-        Progress::Refused { number, place } => print_pair(rt, b"refused", number, place),
         Progress::StepsLeft => rt.write_all(b" (steps left)"),
-        Progress::Stopped { number, tick } => print_pair(rt, b"stopped", number, tick),
+        Progress::Stopped { fault, tick } => print_pair(rt, b"stopped", fault.number(), tick),
         Progress::Ended { span } => print_form(rt, b"ended", span),
     }
 }
 
-// The whole answer, on a sheet of these counts.
-fn print_simulation(rt: &impl Print, a: Simulation, counts: Counts) -> Result<()> {
-    let progress = a.progress;
+// The whole answer, on a sheet of these counts. A refusal is told by number and place, and leaves the state before the first step.
+fn print_simulation(
+    rt: &impl Print,
+    answer: std::result::Result<Simulation, Refusal>,
+    counts: Counts,
+) -> Result<()> {
+    let a = match answer {
+        Ok(a) => {
+            print_progress(rt, a.progress)?;
+            a
+        }
+        Err(refusal) => {
+            print_pair(rt, b"refused", refusal.number(), refusal.place())?;
+            Simulation::before_first(Progress::StepsLeft)
+        }
+    };
     let running = a.running;
     let contents = a.contents;
-    print_progress(rt, progress)?;
     print_form(rt, b"made", a.made)?;
     print_form(rt, b"time", a.time)?;
     print_running(rt, running, counts.processors)?;

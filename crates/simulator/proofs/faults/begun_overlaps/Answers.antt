@@ -1,12 +1,6 @@
--- `begun_overlaps` meets its contract.
-use Rattle.model.specs.Layout.{job_of, entries_of}
-use Rattle.simulator.proofs.FaultLaws.{begun-yes, begun-no}
+-- `begun_overlaps` meets its contract: where task j has begun, the overlap decides.
+use borrow.Author.Tests.{le-leb}
 use Rattle.simulator.proofs.faults.begun_overlaps.Goals as goal
 
-pub returns-then-start-t : goal.returns-then-start-t
-returns-then-start-t c = begun-yes c.args.shape (job_of c.args.job.now) (entries_of c.args.schedule.now) c.args.t c.args.i c.requires.i_lt_tasks.1
-    c.start.ensures c.if-start-t.true c.overlapping_tasks.ensures
-
-pub returns : goal.returns
-returns c = begun-no c.args.shape (job_of c.args.job.now) (entries_of c.args.schedule.now) c.args.t c.args.i c.requires.i_lt_tasks.1
-    c.start.ensures c.if-start-t.false
+pub returns-then-start-tick : goal.returns-then-start-tick
+returns-then-start-tick c = rw (← c.start.ensures.value, le-leb _ _ c.if-start-tick.true) c.overlapping_tasks.ensures

@@ -1,25 +1,24 @@
-use mathlib.Core.Path.{◌∙◌}
-use native.Mathlib.Omega.{arith}
-use Rattle.simulator.proofs.FaultLaws.{files-yes, files-over, early-is}
-use Rattle.model.specs.Layout.{job_of, entries_of, instance_from, schedule_from}
+use Rattle.std.proofs.Common.{◌∙◌, arith}
+use Rattle.rules.specs.Simulation.{file_early}
+use Rattle.model.specs.Jobs.{instance_in, schedule_in}
+use Rattle.model.proofs.JobLaws.{files-in}
 use Rattle.model.proofs.StepLaws.{any-empty, any_next}
-use borrow.Author.Rules.{rules}
+use Rattle.simulator.proofs.AnyLaws.{any-yes, any-over}
+use Rattle.simulator.proofs.FaultLaws.{early-is}
 use Rattle.simulator.proofs.faults.early_at.Goals as goal
 
-pub loop-i-init : goal.loop-i-init
-loop-i-init c = (omega arith, any-empty _)
+pub loop-k-init : goal.loop-k-init
+loop-k-init c = any-empty _
 
 pub returns-then-file_early : goal.returns-then-file_early
-returns-then-file_early c = let b = c.args.shape in
-    let J = job_of c.args.job.now in
-    let L = entries_of c.args.schedule.now in
-    files-yes b J L _ {i = c.loop-i.i} (search rules) c.file_early.ensures c.if-file_early.true ∙ early-is (instance_from b J) (schedule_from b L) c.args.t
+returns-then-file_early c =
+    let t = c.args.t.now in
+    any-yes (file_early (instance_in t.job) (schedule_in t) c.args.tick) (omega (arith, files-in t.job)) c.file_early.ensures c.if-file_early.true ∙ early-is (instance_in t.job) (schedule_in t) c.args.tick
 
-pub loop-i-preserved : goal.loop-i-preserved
-loop-i-preserved c = (omega arith, any_next _ c.loop-i.i c.loop-i.invariant.1 c.file_early.ensures c.if-file_early.false)
+pub loop-k-preserved : goal.loop-k-preserved
+loop-k-preserved c = any_next _ c.loop-k.k c.loop-k.invariant c.file_early.ensures c.if-file_early.false
 
 pub returns : goal.returns
-returns c = let b = c.args.shape in
-    let J = job_of c.args.job.now in
-    let L = entries_of c.args.schedule.now in
-    files-over b J L _ {n = c.loop-i.i} (omega arith) c.loop-i.invariant.1 ∙ early-is (instance_from b J) (schedule_from b L) c.args.t
+returns c =
+    let t = c.args.t.now in
+    any-over (file_early (instance_in t.job) (schedule_in t) c.args.tick) (omega (arith, files-in t.job)) c.loop-k.invariant ∙ early-is (instance_in t.job) (schedule_in t) c.args.tick

@@ -1,15 +1,9 @@
--- `shares_at` meets its contract. The invariant: no task passed starts there and overlaps.
-use Prim.Native.Nat.{◌≤◌, ◌-◌}
-use mathlib.Core.Bool.{false}
-use mathlib.Core.Path.{◌≡◌}
+-- `shares_at` meets its contract. The invariant: the test holds of none of those passed.
+use Rattle.std.proofs.Common.{◌≡◌, false}
 use Rattle.rules.specs.Count.{any_below}
 use Rattle.simulator.specs.Faults.{starts_overlapping}
-use Rattle.model.specs.Layout.{job_of, entries_of, instance_from, schedule_from}
+use Rattle.model.specs.Jobs.{instance_in, schedule_in}
 use Rattle.simulator.proofs.faults.shares_at.Given as goal
 
 abbrev pub invariant-loop-i : goal.invariant-loop-i
-invariant-loop-i l =
-    (l.i ≤ l.shape.tasks) × (any_below l.i (starts_overlapping (instance_from l.shape (job_of l.job)) (schedule_from l.shape (entries_of l.schedule)) l.t) ≡ false)
-
-abbrev pub decreases-loop-i : goal.decreases-loop-i
-decreases-loop-i l = l.shape.tasks - l.i
+invariant-loop-i l = any_below l.i (starts_overlapping (instance_in l.t.job) (schedule_in l.t) l.tick) ≡ false

@@ -1,13 +1,20 @@
 -- `held_in` meets its contract.
-use Rattle.model.specs.Layout.{job_of, entries_of}
-use Rattle.simulator.proofs.StateLaws.{file-held, no-file}
+use Rattle.std.proofs.Common.{◌≡◌, ◌∙◌, ltb, true, false, arith}
+use borrow.Author.Tests.{lt-ltb, le-ltb}
+use Rattle.rules.specs.Model.{file_count}
+use Rattle.rules.specs.Simulation.{held_in}
+use Rattle.model.specs.Jobs.{instance_in}
+use Rattle.model.proofs.JobLaws.{files-in}
 use Rattle.simulator.proofs.state.held_in.Goals as goal
 
-pub returns-then-k-shape : goal.returns-then-k-shape
-returns-then-k-shape c =
-    file-held c.args.shape (job_of c.args.job.now) (entries_of c.args.schedule.now) c.args.t c.if-k-shape.true
-    c.hold_of.result c.hold_of-then-k-shape.result c.hold_of.ensures.result_value c.covers-blue.ensures c.hold_of-then-k-shape.ensures.result_value c.covers-red.ensures
-    c.memory_number.ensures
+pub returns-then-t-k : goal.returns-then-t-k
+unfolding held_in
+returns-then-t-k c =
+    let none : ltb c.args.k (file_count (instance_in c.args.t.now.job)) ≡ false = le-ltb _ _ (omega (arith, files-in c.args.t.now.job)) in
+    rw none
 
 pub returns : goal.returns
-returns c = no-file c.args.shape (job_of c.args.job.now) (entries_of c.args.schedule.now) c.args.t c.if-k-shape.false
+unfolding held_in
+returns c =
+    let some : ltb c.args.k (file_count (instance_in c.args.t.now.job)) ≡ true = lt-ltb _ _ (omega (arith, files-in c.args.t.now.job)) in
+    rw some (c.memory_number.ensures ∙ cc)

@@ -1,15 +1,9 @@
 -- `running_on` meets its contract. The invariant: no task passed occupies the processor.
-use Prim.Native.Nat.{◌≤◌, ◌-◌}
-use mathlib.Core.Bool.{false}
-use mathlib.Core.Path.{◌≡◌}
+use Rattle.std.proofs.Common.{◌≡◌, false}
 use Rattle.rules.specs.Count.{any_below}
 use Rattle.rules.specs.Simulation.{occupies}
-use Rattle.model.specs.Layout.{job_of, entries_of, instance_from, schedule_from}
+use Rattle.model.specs.Jobs.{instance_in, schedule_in}
 use Rattle.simulator.proofs.state.running_on.Given as goal
 
 abbrev pub invariant-loop-i : goal.invariant-loop-i
-invariant-loop-i l =
-    (l.i ≤ l.shape.tasks) × (any_below l.i (occupies (instance_from l.shape (job_of l.job)) (schedule_from l.shape (entries_of l.schedule)) l.processor l.t) ≡ false)
-
-abbrev pub decreases-loop-i : goal.decreases-loop-i
-decreases-loop-i l = l.shape.tasks - l.i
+invariant-loop-i l = any_below l.i (occupies (instance_in l.t.job) (schedule_in l.t) l.processor l.tick) ≡ false

@@ -1,22 +1,12 @@
 -- `step_from` meets its contract.
-use Rattle.model.specs.Layout.{job_of, entries_of, instance_from, schedule_from}
-use Rattle.simulator.proofs.StepLaws.{ahead-end, ahead-onto, ahead-fault}
+use Rattle.model.specs.Jobs.{instance_in, schedule_in}
+use Rattle.simulator.proofs.StepLaws.{ahead-end, ahead-fault, some-fault}
 use Rattle.simulator.proofs.walk.step_from.Goals as goal
 
-pub returns-then-tick-ge-NO_TICK : goal.returns-then-tick-ge-NO_TICK
-returns-then-tick-ge-NO_TICK c =
-    let b = c.args.shape in
-    ahead-end (instance_from b (job_of c.args.job.now)) (schedule_from b (entries_of c.args.schedule.now)) c.next_turn-tick.ensures
-    c.if-tick-ge-NO_TICK.true c.makespan-span.ensures.value
+pub returns-in-None : goal.returns-in-None
+returns-in-None c = let t = c.args.t.now in ahead-end (instance_in t.job) (schedule_in t) c.in-None.ensures c.makespan.ensures.value
 
-pub returns-then-number-eq0 : goal.returns-then-number-eq0
-returns-then-number-eq0 c =
-    let b = c.args.shape in
-    ahead-onto (instance_from b (job_of c.args.job.now)) (schedule_from b (entries_of c.args.schedule.now)) c.next_turn-tick.ensures
-    c.if-tick-ge-NO_TICK.false c.fault_at-number.ensures c.if-number-eq0.true
-
-pub returns : goal.returns
-returns c =
-    let b = c.args.shape in
-    ahead-fault (instance_from b (job_of c.args.job.now)) (schedule_from b (entries_of c.args.schedule.now)) c.next_turn-tick.ensures
-    c.if-tick-ge-NO_TICK.false c.fault_at-number.ensures c.if-number-eq0.false
+pub returns-in-Some-fault_at : goal.returns-in-Some-fault_at
+returns-in-Some-fault_at c =
+    let t = c.args.t.now in
+    ahead-fault (instance_in t.job) (schedule_in t) c.in-Some.tick c.in-Some.ensures c.in-Some-fault_at.ensures (some-fault c.in-Some-fault_at.fault)

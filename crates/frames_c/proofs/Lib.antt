@@ -1,2 +1,0 @@
--- the exported calls
-pub mod ExportLaws
