@@ -19,14 +19,13 @@ use Rattle.rules.proofs.StrippedLaws.{stripped_law}
 use Rattle.rules.proofs.ConvertLaws.{Outputs, short, fits, outputs, OrTooMany, by41, by42, passes, or-too-many, convert-refused, convert-accepted}
 use Rattle.rules.proofs.ConvertLaws.{convert_refused, convert_exact, convert_ends, converted_short, same_sheet, converted_reads, stripped_accepted, extended_accepted}
 use Rattle.rules.proofs.StripLaws.{Strips, by_mark, leaves, strips, strip-refused, strip-accepted, strip_refused, strip_exact, strip_ends, stripped_short, strip_accepted}
-use Rattle.rules.specs.declared.refusal.Fault.{Fault}
-use Rattle.rules.specs.Refusals.{as_fault}
+use Rattle.std.specs.Prelude.{Result, Ok, Err}
+use Rattle.rules.specs.declared.refusal.Refusal.{Refusal}
+use Rattle.rules.specs.Refusals.{refusal_number, refusal_place}
 use Rattle.model.specs.declared.layout.Shape.{Shape}
 use Rattle.model.specs.declared.layout.Numbers.{Numbers}
 use Rattle.model.specs.Layout.{job_of, instance_from}
-use Rattle.instance.specs.declared.sheet.InstanceRead.{InstanceRead}
-use Rattle.instance.specs.declared.sheet.InstanceRead.TheVariants as SheetRead
-use Rattle.instance.specs.Reads.{as_read}
+use Rattle.instance.specs.Reads.{IsRead}
 use Rattle.instance.proofs.AcceptedLaws.{read-accepted, read-refused}
 use Rattle.frames.specs.ConversionDemands.{ConverterDemands, StripperDemands}
 
@@ -113,17 +112,17 @@ module _ (sheet paper buffer : List ℕ) where
 
 -- ---- by what was read of the board sheet
 
-module _ (sheet : List ℕ) (xs : Numbers) (r : InstanceRead) (read : as_read r xs ≡ read_instance sheet) where
+module _ (sheet : List ℕ) (xs : Numbers) (r : Result Shape Refusal) (read : IsRead r xs (read_instance sheet)) where
   module _ (buffer : List ℕ) where
-    pub converted-on : {b : Shape} {a : Output} → r ≡ SheetRead.Accepted b → a ≡ convert_on (instance_from b (job_of xs)) buffer → a ≡ convert sheet buffer
+    pub converted-on : {b : Shape} {a : Output} → r ≡ Ok b → a ≡ convert_on (instance_from b (job_of xs)) buffer → a ≡ convert sheet buffer
     converted-on e q = q ∙ sym (convert-accepted sheet buffer _ (read-accepted sheet r xs read _ e))
 
-    pub unconverted : {f : Fault} {k n : ℕ} → r ≡ SheetRead.Refused f k → n ≡ fault_number in_sheet (as_fault f) → unwritten n k buffer ≡ convert sheet buffer
-    unconverted {k = k} e p = rw p (sym (convert-refused sheet buffer _ k (read-refused sheet r xs read _ _ e)))
+    pub unconverted : {e : Refusal} {n k : ℕ} → r ≡ Err e → n ≡ refusal_number e → k ≡ refusal_place e → unwritten n k buffer ≡ convert sheet buffer
+    unconverted q n k = let t = read-refused sheet r xs read _ q in rw (n, k, t.is) (sym (convert-refused sheet buffer _ t.line t.refused))
 
   module _ (paper buffer : List ℕ) where
-    pub stripped-on : {b : Shape} {a : Output} → r ≡ SheetRead.Accepted b → a ≡ strip_on (instance_from b (job_of xs)) paper buffer → a ≡ strip sheet paper buffer
+    pub stripped-on : {b : Shape} {a : Output} → r ≡ Ok b → a ≡ strip_on (instance_from b (job_of xs)) paper buffer → a ≡ strip sheet paper buffer
     stripped-on e q = q ∙ sym (strip-accepted sheet paper buffer _ (read-accepted sheet r xs read _ e))
 
-    pub unstripped : {f : Fault} {k n : ℕ} → r ≡ SheetRead.Refused f k → n ≡ fault_number in_sheet (as_fault f) → unwritten n k buffer ≡ strip sheet paper buffer
-    unstripped {k = k} e p = rw p (sym (strip-refused sheet paper buffer _ k (read-refused sheet r xs read _ _ e)))
+    pub unstripped : {e : Refusal} {n k : ℕ} → r ≡ Err e → n ≡ refusal_number e → k ≡ refusal_place e → unwritten n k buffer ≡ strip sheet paper buffer
+    unstripped q n k = let t = read-refused sheet r xs read _ q in rw (n, k, t.is) (sym (strip-refused sheet paper buffer _ t.line t.refused))

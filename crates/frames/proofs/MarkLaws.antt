@@ -12,14 +12,13 @@ use Rattle.rules.specs.InstanceText.{read_instance}
 use Rattle.rules.specs.ScheduleText as Paper
 use Rattle.rules.specs.ScheduleText.{read_schedule}
 use Rattle.rules.specs.Calls.{mark_on, mark_by, mark, line_at, fault_line}
-use Rattle.rules.specs.declared.refusal.Fault.{Fault}
-use Rattle.rules.specs.Refusals.{as_fault}
+use Rattle.std.specs.Prelude.{Result, Ok, Err}
+use Rattle.rules.specs.declared.refusal.Refusal.{Refusal}
+use Rattle.rules.specs.Refusals.{refusal_number, refusal_place}
 use Rattle.model.specs.declared.layout.Shape.{Shape}
 use Rattle.model.specs.declared.layout.Numbers.{Numbers}
 use Rattle.model.specs.Layout.{job_of, instance_from}
-use Rattle.instance.specs.declared.sheet.InstanceRead.{InstanceRead}
-use Rattle.instance.specs.declared.sheet.InstanceRead.TheVariants as SheetRead
-use Rattle.instance.specs.Reads.{as_read as as_instance}
+use Rattle.instance.specs.Reads.{IsRead}
 use Rattle.instance.proofs.AcceptedLaws.{read-accepted, read-refused}
 
 -- ---- the answer
@@ -36,13 +35,14 @@ mark-accepted sheet timetable I e = by_read (read_schedule I timetable) refl
     by_read (Paper.refused w k) f = rw (e, f, mark_by)
     by_read (Paper.read P c) f = rw (e, f, mark_by)
 
-module _ (sheet timetable : List ℕ) (xs : Numbers) (r : InstanceRead) (read : as_instance r xs ≡ read_instance sheet) where
-  pub marked-on : {b : Shape} {v : Verdict} → r ≡ SheetRead.Accepted b → v ≡ mark_on (instance_from b (job_of xs)) timetable → v ≡ mark sheet timetable
+module _ (sheet timetable : List ℕ) (xs : Numbers) (r : Result Shape Refusal) (read : IsRead r xs (read_instance sheet)) where
+  pub marked-on : {b : Shape} {v : Verdict} → r ≡ Ok b → v ≡ mark_on (instance_from b (job_of xs)) timetable → v ≡ mark sheet timetable
   marked-on e q = q ∙ sym (mark-accepted sheet timetable _ (read-accepted sheet r xs read _ e))
 
-  pub marked_refused : {f : Fault} {k n : ℕ} {v : Verdict} → r ≡ SheetRead.Refused f k → n ≡ fault_number in_sheet (as_fault f) → v ≡ refused_by n k
+  pub marked_refused : {e : Refusal} {n k : ℕ} {v : Verdict} → r ≡ Err e → n ≡ refusal_number e → k ≡ refusal_place e → v ≡ refused_by n k
       → v ≡ mark sheet timetable
-  marked_refused {k = k} e p q = q ∙ rw p (sym (mark-refused sheet timetable k (read-refused sheet r xs read _ _ e)))
+  marked_refused q n k v =
+      let t = read-refused sheet r xs read _ q in rw (v, n, k, t.is) (sym (mark-refused sheet timetable t.line t.refused))
 
 -- ---- the line at fault
 

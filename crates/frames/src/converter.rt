@@ -6,7 +6,6 @@ ghost use Rattle.convert_text.specs.Answers.{as_output};
 ghost use Rattle.frames.specs.ConversionDemands.{ConverterDemands, StripperDemands};
 
 use convert_text::{Converted, convert_instance, strip_paper};
-use instance::InstanceRead;
 use model::layout;
 
 // The converted sheet of a board sheet, written at the front of the buffer.
@@ -16,11 +15,11 @@ pub fn convert(sheet: &[u8], out: &mut [u8]) -> Converted
 {
     let mut job = layout::Numbers::new();
     match instance::read(sheet, &mut job) {
-        InstanceRead::Refused(fault, line) => Converted {
-            number: text::sheet_number(fault),
-            place: line,
+        Err(refusal) => Converted {
+            number: refusal.number(),
+            place: refusal.place(),
         },
-        InstanceRead::Accepted(shape) => convert_instance(shape, &job, out),
+        Ok(shape) => convert_instance(shape, &job, out),
     }
 }
 
@@ -31,10 +30,10 @@ pub fn strip<'a>(sheet: &'a [u8], paper: &'a [u8], out: &mut [u8]) -> Converted
 {
     let mut job = layout::Numbers::new();
     match instance::read(sheet, &mut job) {
-        InstanceRead::Refused(fault, line) => Converted {
-            number: text::sheet_number(fault),
-            place: line,
+        Err(refusal) => Converted {
+            number: refusal.number(),
+            place: refusal.place(),
         },
-        InstanceRead::Accepted(shape) => strip_paper(shape, &job, paper, out),
+        Ok(shape) => strip_paper(shape, &job, paper, out),
     }
 }

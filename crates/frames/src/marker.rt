@@ -4,7 +4,6 @@ ghost use Rattle.rules.specs.Calls.{mark as rules-mark, fault_line};
 ghost use Rattle.validator.specs.Answer.{as_verdict};
 ghost use Rattle.frames.specs.Demands.{MarkerDemands};
 
-use instance::InstanceRead;
 use mark_text::mark_paper;
 use model::layout;
 use rules::between;
@@ -17,8 +16,8 @@ pub fn mark<'a>(sheet: &'a [u8], paper: &'a [u8]) -> Verdict
 {
     let mut job = layout::Numbers::new();
     match instance::read(sheet, &mut job) {
-        InstanceRead::Refused(fault, line) => Verdict::refused(text::sheet_number(fault), line),
-        InstanceRead::Accepted(shape) => mark_paper(shape, &job, paper),
+        Err(refusal) => Verdict::refused(refusal.number(), refusal.place()),
+        Ok(shape) => mark_paper(shape, &job, paper),
     }
 }
 

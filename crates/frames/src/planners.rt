@@ -6,7 +6,6 @@ ghost use Rattle.planner.specs.Outcomes.{as_planner};
 ghost use Rattle.plan_text.specs.Answers.{as_answer};
 ghost use Rattle.frames.specs.Demands.{PlannerDemands, AwareDemands, PlainDemands, TwoTrialsATask};
 
-use instance::InstanceRead;
 use model::layout;
 use plan_text::{Answer, plan_instance};
 use planner::Rule;
@@ -18,12 +17,12 @@ fn plan_sheet(rule: Rule, sheet: &[u8], out: &mut [u8]) -> Answer
 {
     let mut job = layout::Numbers::new();
     match instance::read(sheet, &mut job) {
-        InstanceRead::Refused(fault, line) => Answer {
-            number: text::sheet_number(fault),
-            place: line,
+        Err(refusal) => Answer {
+            number: refusal.number(),
+            place: refusal.place(),
             trials: 0,
         },
-        InstanceRead::Accepted(shape) => plan_instance(rule, shape, &job, out),
+        Ok(shape) => plan_instance(rule, shape, &job, out),
     }
 }
 

@@ -4,7 +4,6 @@ ghost use Rattle.rules.specs.Simulation.{simulate as rules-simulate};
 ghost use Rattle.simulator.specs.Answers.{as_answer};
 ghost use Rattle.frames.specs.Demands.{SimulatorDemands};
 
-use instance::InstanceRead;
 use model::job::Job;
 use model::layout;
 use rules::Refusal;
@@ -23,14 +22,10 @@ pub fn simulate<'a>(
     ensures simulator_demands { SimulatorDemands sheet.now paper.now made steps (as_answer result) }
 {
     let mut numbers = layout::Numbers::new();
-    match instance::read(sheet, &mut numbers) {
-        InstanceRead::Refused(fault, line) => Err(Refusal::Sheet(fault, line)),
-        InstanceRead::Accepted(shape) => {
-            let job = Job {
-                shape,
-                numbers: &numbers,
-            };
-            simulate_paper(&job, paper, made, steps)
-        }
-    }
+    let shape = instance::read(sheet, &mut numbers)?;
+    let job = Job {
+        shape,
+        numbers: &numbers,
+    };
+    simulate_paper(&job, paper, made, steps)
 }

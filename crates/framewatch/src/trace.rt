@@ -8,7 +8,6 @@ use crate::line::Line;
 use crate::step;
 use console::print_marks;
 use frames::{Progress, Simulation, TickFault};
-use instance::InstanceRead;
 use model::layout;
 use model::layout::Shape;
 use std::io::Result;
@@ -149,7 +148,7 @@ pub fn show<'a>(
     steps: u64,
 ) -> Result<()> {
     let mut job = layout::Numbers::new();
-    let InstanceRead::Accepted(shape) = instance::read(sheet, &mut job) else {
+    let Ok(shape) = instance::read(sheet, &mut job) else {
         return print_marks(rt, sheet, paper);
     };
     let Ok(first) = frames::simulate(sheet, paper, made, 0) else {

@@ -2,16 +2,15 @@
 use Prim.Native.Nat.{ℕ, suc, pred, ◌+◌, ◌-◌, ◌≤◌, ◌<◌}
 use mathlib.Core.Path.{◌≡◌, refl, ap}
 use mathlib.Core.Bool.{Bool, true, false, ◌&&◌, ◌||◌}
-use mathlib.Core.List.{List, []}
+use mathlib.Core.List.{[]}
 use native.Mathlib.Omega.{arith}
 use native.Mathlib.Numerals.{add-one, sub-one}
 use borrow.Author.Tests.{eq-eqb, ne_eqb, ltb-true}
 use lib.Dec.{leb, ltb, eqb}
-use lib.ListN.{length}
 use Rattle.rules.specs.Limits.{max_tasks, max_files}
 use Rattle.rules.specs.Model.{Task, Instance, file_count, task_count}
 use Rattle.rules.specs.Count.{list_below}
-use Rattle.rules.specs.Text.{wrong, right, undue, or_undue, due, fault_of}
+use Rattle.rules.specs.Text.{wrong, right, undue, or_undue}
 use Rattle.rules.specs.BoardType.{side_from}
 use Rattle.rules.specs.InstanceText.{task_line, file_line, ascends, file_allowed, with_board, with_line}
 use Rattle.rules.specs.declared.Board.{Board}
@@ -23,8 +22,8 @@ use Rattle.model.specs.declared.layout.Numbers.{Numbers}
 use Rattle.model.proofs.LayoutLaws.{file-count, task-count, maker-at, reader_at}
 use Rattle.model.proofs.WriteLaws.{task-stored, file-stored}
 use Rattle.instance.specs.declared.line.Line.{Line}
-use Rattle.instance.specs.declared.line.Line.TheVariants.{Board as BoardLine, Task as TaskLine, File as FileLine, Malformed, OutOfRange}
-use Rattle.instance.specs.Lines.{as_reading}
+use Rattle.instance.specs.declared.line.Line.TheVariants.{Board as BoardLine, Task as TaskLine, File as FileLine}
+use Rattle.instance.specs.Lines.{as_line}
 
 -- ---- the first line
 pub begun : (b : Board) (J : Job)
@@ -39,12 +38,10 @@ unfolding instance_from list_below
 begun b J = refl
 
 -- a line that is no board's
-pub no-board : (l : Line) → ((b : Board) → l ≡ BoardLine b → ⊥) → wrong (fault_of (as_reading l)) ≡ due with_board (as_reading l)
+pub no-board : (l : Line) → ((b : Board) → l ≡ BoardLine b → ⊥) → wrong undue ≡ or_undue (with_board (as_line l))
 no-board (BoardLine b) h = absurd (h b refl)
 no-board (TaskLine i b r w) h = refl
 no-board (FileLine i j f c) h = refl
-no-board Malformed h = refl
-no-board OutOfRange h = refl
 
 -- ---- the lines behind it
 module _ (b : Shape) (J : Job) where
@@ -53,12 +50,10 @@ module _ (b : Shape) (J : Job) where
 
   -- a line that is neither a task's nor a file's
   pub neither : (l : Line) → ((i b r w : ℕ) → l ≡ TaskLine i b r w → ⊥) → ((i j f c : ℕ) → l ≡ FileLine i j f c → ⊥)
-      → wrong (fault_of (as_reading l)) ≡ due (with_line I) (as_reading l)
+      → wrong undue ≡ or_undue (with_line I (as_line l))
   neither (BoardLine b) g h = refl
   neither (TaskLine i b r w) g h = absurd (g i b r w refl)
   neither (FileLine i j f c) g h = absurd (h i j f c refl)
-  neither Malformed g h = refl
-  neither OutOfRange g h = refl
 
   -- a task
   module _ (i : ℕ) (a : Task) where

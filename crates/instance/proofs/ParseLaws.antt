@@ -1,65 +1,19 @@
 -- What a line says, from the numbers that each form finds in it.
 use Prim.Native.Nat.{ℕ, ◌≤◌, ◌<◌}
-use mathlib.Core.Path.{◌≡◌, refl}
-use mathlib.Core.Bool.{Bool, true, false, cond, ◌&&◌}
+use mathlib.Core.Path.{◌≡◌, refl, ap}
 use mathlib.Core.List.{List, [], ◌∷◌}
 use mathlib.Core.Option.{none, some}
-use Rattle.std.specs.Prelude.{Option, Some, None}
 use native.Mathlib.Omega.{arith}
-use borrow.Author.Tests.{ne_eqb}
-use lib.ListN.{length, get_or}
-use Rattle.rules.specs.Text.{ascii, ended, unended, lines_of, Reading, wrong, right, out_of_range, malformed, if_in_range}
-use Rattle.rules.specs.BoardType.{side_from, checked_board}
-use Rattle.rules.specs.InstanceText.{InstanceLine, board_line, task_line, board_form, task_form, work_form, file_form}
+use lib.ListN.{length}
+use Rattle.rules.specs.Text.{Fault, ascii, ended, unended, lines_of, wrong, right, malformed, due}
+use Rattle.rules.specs.InstanceText.{InstanceLine, board_form, task_form, work_form, file_form}
 use Rattle.rules.specs.InstanceText.{as_board, as_task, as_work, as_file, instance_line_by, instance_line}
-use Rattle.rules.specs.Limits.{task_numbers, processor_counts, memory_limits, run_times, work_sizes, in_range}
-use Rattle.rules.proofs.Tests.{by_order, and_no, and_yes}
-use Rattle.rules.specs.declared.Side.{Side}
-use Rattle.rules.specs.declared.Board.{Board}
+use Rattle.rules.proofs.Tests.{by_order}
 use Rattle.text.specs.FirstLine.{first_line}
-use Rattle.text.specs.Cut.{scan_ended, numbers_found_in, Cut}
+use Rattle.text.specs.Cut.{scan_ended, Cut}
 use Rattle.text.proofs.FirstLineLaws.{no_line, line-within, line-ended, line-unended}
-use Rattle.text.proofs.CutLaws.{ended_some, ended-none, other-form, Taken, cut-taken}
-use Rattle.instance.specs.Lines.{first_says, said_by, NextLine}
-
--- ---- the board, from the constructor's answer
-abbrev pub as_checked : Option Board → Reading InstanceLine
-as_checked (Some b) = right (board_line (side_from b.blue) (side_from b.red))
-as_checked None = wrong out_of_range
-
-four-tests : (a b c d : Bool) (s t : Side)
-    → as_checked (cond ((a && b) && (c && d)) (Some (record { blue = s; red = t })) None) ≡ if_in_range (a && b && c && d)
-    (board_line (side_from s) (side_from t))
-four-tests false b c d s t = refl
-four-tests true false c d s t = refl
-four-tests true true false d s t = refl
-four-tests true true true false s t = refl
-four-tests true true true true s t = refl
-
-pub board-checked : (p m q l : ℕ)
-    → as_checked (checked_board (record { processors = p; limit = m }) (record { processors = q; limit = l })) ≡ as_board (p ∷ m ∷ q ∷ l ∷ [])
-board-checked p m q l = four-tests (in_range processor_counts p) (in_range memory_limits m) (in_range processor_counts q) (in_range memory_limits l) _ _
-
--- ---- what the numbers found say
-module _ (found : List ℕ) where
-  abbrev Numbers : List ℕ
-  Numbers = get_or found 1 0 ∷ get_or found 2 0 ∷ get_or found 3 0 ∷ get_or found 4 0 ∷ []
-
-  pub found-board : get_or found 0 0 ≡ 1 → as_board Numbers ≡ said_by found
-  found-board e = rw e
-
-  pub found-task : get_or found 0 0 ≡ 2 → as_task Numbers ≡ said_by found
-  found-task e = rw e
-
-  pub found-work : get_or found 0 0 ≡ 3 → as_work Numbers ≡ said_by found
-  found-work e = rw e
-
-  pub found-file : get_or found 0 0 ≡ 4 → as_file Numbers ≡ said_by found
-  found-file e = rw e
-
-  pub found_none : (get_or found 0 0 ≡ 1 → ⊥) → (get_or found 0 0 ≡ 2 → ⊥) → (get_or found 0 0 ≡ 3 → ⊥) → (get_or found 0 0 ≡ 4 → ⊥)
-      → wrong malformed ≡ said_by found
-  found_none b t w f = rw (ne_eqb _ _ b, ne_eqb _ _ t, ne_eqb _ _ w, ne_eqb _ _ f)
+use Rattle.text.proofs.CutLaws.{ended_some, ended-none, other-form, cut-lines, cut-left}
+use Rattle.text.specs.Due.{first_says, Took}
 
 -- ---- the form that a text's first line has
 
@@ -112,33 +66,40 @@ module _ (text vs : List ℕ) where
       rw (ended-none board_form text b f.short, ended-none task_form text t f.short, ended-none work_form text w f.short, f.scanned)
 
 -- ---- the line that was cut
-module _ {text line found : List ℕ} where
-  held : {kind : ℕ} {form : List ℕ} (t : Taken kind form text line found)
-      → said_by (numbers_found_in kind t.values) ≡ instance_line (ended (first_line text)) → NextLine text line found
-  held t e =
+module _ (form text : List ℕ) {line found rest : List ℕ} (r : Cut (scan_ended form text) text line found rest) where
+  pub cut-right : (p : InstanceLine) → right p ≡ instance_line (ended (first_line text)) → Took instance_line some text rest p
+  cut-right p e =
       record {
-        missed = λ z. absurd (omega (arith, t.bytes));
-        taken = λ h. record { first = t.first; short = t.short; said = rw (t.stored, t.first) e };
+        line = ended line;
+        lines = cut-lines form text r;
+        due = rw (r.first, ← e);
+        shorter = omega (arith, cut-left form text r);
       }
 
-  pub file-cut : Cut 4 (scan_ended file_form text) text line found → 0 < length line → NextLine text line found
-  file-cut r h = let t = cut-taken r h in held t (says-file text t.values t.numbers)
+  pub cut-wrong : (w : Fault) → wrong w ≡ instance_line (ended (first_line text)) → due some (first_says instance_line (lines_of text)) ≡ wrong w
+  cut-wrong w e = rw (cut-lines form text r, r.first, ← e)
 
-  pub task-cut : Cut 2 (scan_ended task_form text) text line found → 0 < length line → NextLine text line found
-  task-cut r h = let t = cut-taken r h in held t (says-task text t.values t.numbers)
+-- what its numbers say
+module _ (text : List ℕ) {line found rest : List ℕ} where
+  pub file-says : (r : Cut (scan_ended file_form text) text line found rest) → as_file found ≡ instance_line (ended (first_line text))
+  file-says r = rw r.stored (says-file text r.values r.scanned)
 
-  pub work-cut : scan_ended task_form text ≡ none → Cut 3 (scan_ended work_form text) text line found → 0 < length line → NextLine text line found
-  work-cut n r h = let t = cut-taken r h in held t (says-work text t.values n t.numbers)
+  pub task-says : (r : Cut (scan_ended task_form text) text line found rest) → as_task found ≡ instance_line (ended (first_line text))
+  task-says r = rw r.stored (says-task text r.values r.scanned)
 
-  board-held : Cut 1 (scan_ended board_form text) text line found → 0 < length line → NextLine text line found
-  board-held r h = let t = cut-taken r h in held t (says-board text t.values t.numbers)
+  pub work-says : scan_ended task_form text ≡ none → (r : Cut (scan_ended work_form text) text line found rest)
+      → as_work found ≡ instance_line (ended (first_line text))
+  work-says n r = rw r.stored (says-work text r.values n r.scanned)
+
+  pub board-says : (r : Cut (scan_ended board_form text) text line found rest) → as_board found ≡ instance_line (ended (first_line text))
+  board-says r = rw r.stored (says-board text r.values r.scanned)
 
 -- a line without its LF, or none, and a line of no form
 unended-unread : (l : List ℕ) → instance_line (unended l) ≡ wrong malformed
 unfolding instance_line_by
 unended-unread l = refl
 
-unended-says : (t : List ℕ) → length t ≤ length (first_line t) → first_says (lines_of t) ≡ wrong malformed
+unended-says : (t : List ℕ) → length t ≤ length (first_line t) → first_says instance_line (lines_of t) ≡ wrong malformed
 unended-says [] h = rw no_line
 unended-says (b ∷ bs) h = rw (line-unended (b ∷ bs) (omega arith) (omega (arith, line-within (b ∷ bs)))) (unended-unread (b ∷ bs))
 
@@ -148,25 +109,9 @@ module _ (text : List ℕ) (f : scan_ended file_form text ≡ none) (t : scan_en
   unfolding instance_line_by
   ended-unread h = rw (ended-none board_form text b h, ended-none task_form text t h, ended-none work_form text w h, ended-none file_form text f h)
 
-  no-form : first_says (lines_of text) ≡ wrong malformed
+  pub no-form : due some (first_says instance_line (lines_of text)) ≡ wrong malformed
   no-form =
-      by_order (length (first_line text)) (length text)
+      ap (due some)
+      (by_order (length (first_line text)) (length text)
       (λ h. rw (line-ended text h) (ended-unread h))
-      (λ h. unended-says text h)
-
-pub board-cut : {text line found : List ℕ} → scan_ended file_form text ≡ none → scan_ended task_form text ≡ none → scan_ended work_form text ≡ none
-    → Cut 1 (scan_ended board_form text) text line found → NextLine text line found
-board-cut {text} {line} {found} f t w r =
-    by_order 0 (length line)
-    (λ h. board-held r h)
-    (λ z. record { missed = λ e. no-form text f t w (r.missed e); taken = λ h. absurd (omega arith) })
-
--- ---- a task with W, by whether W is in its range
-module _ (i b r w : ℕ) where
-  pub work-out : in_range work_sizes w ≡ false → wrong out_of_range ≡ as_work (i ∷ b ∷ r ∷ w ∷ [])
-  work-out e = rw (e, and_no (in_range task_numbers i && in_range run_times b && in_range run_times r))
-
-  pub work_in : in_range work_sizes w ≡ true
-      → if_in_range (in_range task_numbers i && in_range run_times b && in_range run_times r) (task_line i (record { on_blue = b; on_red = r; work = w }))
-      ≡ as_work (i ∷ b ∷ r ∷ w ∷ [])
-  work_in e = rw (e, and_yes (in_range task_numbers i && in_range run_times b && in_range run_times r))
+      (λ h. unended-says text h))

@@ -7,6 +7,6 @@ mod sheet;
 mod size;
 mod writer;
 
-pub use sheet::{InstanceRead, read};
+pub use sheet::read;
 pub use size::instance_size;
 pub use writer::write;

@@ -1,7 +1,6 @@
 // Reads board sheets, good and bad, and prints the number and the place of each answer.
 #![tactic(auto)]
 
-use instance::InstanceRead;
 use model::layout;
 use rules::Board;
 use std::io::Result;
@@ -16,8 +15,8 @@ fn put(rt: &impl Print, number: u64, place: u64) -> Result<()> {
 fn show(rt: &impl Print, sheet: &[u8]) -> Result<()> {
     let mut job = layout::Numbers::new();
     match instance::read(sheet, &mut job) {
-        InstanceRead::Accepted(_) => put(rt, 0, 0),
-        InstanceRead::Refused(fault, place) => put(rt, text::sheet_number(fault), place),
+        Ok(_) => put(rt, 0, 0),
+        Err(refusal) => put(rt, refusal.number(), refusal.place()),
     }
 }
 

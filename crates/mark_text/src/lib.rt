@@ -8,9 +8,9 @@ ghost use Rattle.model.specs.Layout.{instance_of, schedule_of};
 ghost use Rattle.validator.specs.Answer.{as_verdict};
 ghost use Rattle.mark_text.specs.Marked.{Marked};
 
+use model::job::Job;
 use model::layout;
 use model::layout::Shape;
-use schedule::ScheduleRead;
 use validator::judgement::{Verdict, judge};
 
 // Marks a timetable on the instance of an accepted board sheet, and leaves in the schedule what was read of it.
@@ -23,11 +23,13 @@ pub fn mark_into<'a>(
     requires { WellFormed (instance_of shape job.now) }
     ensures { Marked (instance_of shape job.now) paper.now (schedule_of shape schedule.new) (as_verdict result) }
 {
-    match schedule::read(shape, job, paper, schedule) {
-        ScheduleRead::Refused(fault, line) => {
-            Verdict::refused(text::timetable_number(fault), line)
-        }
-        ScheduleRead::Read(claim) => judge(shape, job, schedule, claim),
+    let lent = Job {
+        shape,
+        numbers: job,
+    };
+    match schedule::read(&lent, paper, schedule) {
+        Err(refusal) => Verdict::refused(refusal.number(), refusal.place()),
+        Ok(claim) => judge(shape, job, schedule, claim),
     }
 }
 

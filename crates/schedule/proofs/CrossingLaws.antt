@@ -19,8 +19,8 @@ unfolding schedule_from
 runs-from b L = refl
 
 -- which files move depends on the runs alone
-pub moved-so-far : {b : Shape} {J : Job} {bs : List ℕ} {old schedule : StoredSchedule} {from line at k i : ℕ} → MovesRead b J bs old schedule from line at k i
-    → {r x : Bool} → r ≡ moved (instance_from b J) (schedule_from b (entries_of schedule)) i → r ≡ x
+pub moved-so-far : {b : Shape} {J : Job} {bs : List ℕ} {old schedule : StoredSchedule} {line : ℕ} {rest : List ℕ} {k i : ℕ}
+    → MovesRead b J bs old schedule line rest k i → {r x : Bool} → r ≡ moved (instance_from b J) (schedule_from b (entries_of schedule)) i → r ≡ x
     → moved (instance_from b J) (moves_of b.tasks i (entries_of schedule)) i ≡ x
 moved-so-far {b} {J} {schedule = schedule} {i = i} q e y =
     ap (λ (rs : List Run). moved (instance_from b J) (record { runs = rs; moves = [] }) i) (sym (runs-from b (entries_of schedule))) ∙ sym e ∙ y

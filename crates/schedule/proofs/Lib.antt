@@ -1,8 +1,7 @@
 -- The laws that the proofs of this crate, and of those above it, cite.
 
--- one line, and the line that starts at a place of a text
+-- one line
 pub mod LineLaws
-pub mod LineAtLaws
 -- the due lines
 pub mod DueLaws
 -- the schedule read so far, with one line more

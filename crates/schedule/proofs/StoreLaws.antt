@@ -1,14 +1,12 @@
 -- The schedule read so far, with one run or one move more.
 use Prim.Native.Nat.{ℕ, suc, ◌≤◌, ◌<◌}
-use mathlib.Core.Path.{◌≡◌, ap, ap₂}
+use mathlib.Core.Path.{◌≡◌, ap}
 use mathlib.Core.List.{List, []}
 use native.Mathlib.Omega.{arith}
-use lib.ListN.{length}
 use Rattle.rules.specs.Count.{list_below}
 use Rattle.rules.specs.Limits.{max_tasks, max_files}
 use Rattle.rules.specs.Model.{Run, Schedule}
 use Rattle.rules.specs.ScheduleText.{with_run, with_move}
-use Rattle.rules.proofs.CountLaws.{list-cong}
 use Rattle.model.specs.declared.layout.Schedule.{Schedule as StoredSchedule}
 use Rattle.model.specs.Layout.{Entries, entries_of, run_from, WholeSchedule, with_run_at, with_move_at}
 use Rattle.model.proofs.WriteLaws.{runs-stored, moves-stored}

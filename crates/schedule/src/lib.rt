@@ -6,6 +6,6 @@ mod reader;
 mod size;
 mod writer;
 
-pub use reader::{ScheduleRead, read};
+pub use reader::read;
 pub use size::schedule_size;
 pub use writer::write;

@@ -12,7 +12,6 @@ use model::job::Job;
 use model::layout::Schedule;
 use model::timetable::Timetable;
 use rules::{Board, Refusal};
-use schedule::ScheduleRead;
 use simulator::answer::Simulation;
 use simulator::walk::watch;
 
@@ -30,14 +29,10 @@ pub fn simulate_paper(job: &Job, paper: &[u8], made: u64, steps: u64) -> Result<
     ensures { as_answer result ≡ simulate_on (instance_in job.now) paper.now made steps }
 {
     let mut schedule = Schedule::new();
-    match schedule::read(job.shape, job.numbers, paper, &mut schedule) {
-        ScheduleRead::Refused(fault, line) => Err(Refusal::Timetable(fault, line)),
-        ScheduleRead::Read(_) => {
-            let timetable = Timetable {
-                job: *job,
-                schedule: &schedule,
-            };
-            Ok(watch(&timetable, wanted_steps(made, steps)))
-        }
-    }
+    let _claim = schedule::read(job, paper, &mut schedule)?;
+    let timetable = Timetable {
+        job: *job,
+        schedule: &schedule,
+    };
+    Ok(watch(&timetable, wanted_steps(made, steps)))
 }

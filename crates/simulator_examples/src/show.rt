@@ -2,7 +2,6 @@
 use crate::state::{print_held, print_running};
 use console::{print_number, print_verdict};
 use frames::{Progress, Simulation};
-use instance::InstanceRead;
 use model::layout;
 use rules::Refusal;
 use std::io::Result;
@@ -18,11 +17,11 @@ pub struct Counts {
 fn counts_of(sheet: &[u8]) -> Counts {
     let mut job = layout::Numbers::new();
     match instance::read(sheet, &mut job) {
-        InstanceRead::Refused(_, _) => Counts {
+        Err(_) => Counts {
             processors: 0,
             files: 0,
         },
-        InstanceRead::Accepted(shape) => {
+        Ok(shape) => {
             let processors = shape.board.blue.processors + shape.board.red.processors;
             Counts {
                 processors,

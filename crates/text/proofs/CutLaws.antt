@@ -12,13 +12,13 @@ use lib.Dec.{eqb, ltb}
 use lib.ListN.{length, drop, length-append, length-drop}
 use lib.Seq.{drop-drop, drop-append_seam}
 use Rattle.rules.specs.Limits.{max_digits}
-use Rattle.rules.specs.Text.{digit, digits_of, numeral, value_from, is_number, starts_with, and_then, scan_by, scan}
+use Rattle.rules.specs.Text.{ended, lines_of, digit, digits_of, numeral, value_from, is_number, starts_with, and_then, scan_by, scan}
 use Rattle.rules.proofs.Tests.{split, clash, by_order, and-true, and-false, and_no, eqb-sym}
 use Rattle.rules.proofs.NumeralLaws.{digits_more, digits-stop, digit-bounds}
 use Rattle.rules.proofs.FormLaws.{scan-number, scan-no-number, scan-sign, scan-no-sign}
 use Rattle.text.specs.FirstLine.{first_line}
-use Rattle.text.specs.Cut.{begins, plain, scan_ended, numbers_found_in, found_by, Cut}
-use Rattle.text.proofs.FirstLineLaws.{first_more, first-stop, no-first}
+use Rattle.text.specs.Cut.{plain, scan_ended, Cut}
+use Rattle.text.proofs.FirstLineLaws.{first_more, first-stop, no-first, line-behind}
 use Rattle.text.proofs.FrontLaws.{front-within}
 use Rattle.text.proofs.ReadNumeralLaws.{digits-front, no-digits}
 
@@ -149,6 +149,11 @@ unfolding scan_ended
 ended-none form text e h = rw (lt-ltb _ _ h) at e
 
 -- ---- a word at the front of a form and of a text
+-- a text starts with a word
+abbrev pub begins : List ℕ → List ℕ → Bool
+begins [] text = true
+begins (s ∷ word) text = starts_with s text && begins word (drop 1 text)
+
 drop_more : (n : ℕ) (t : List ℕ) → drop n (drop 1 t) ≡ drop (suc n) t
 drop_more n t = drop-drop n 1 t ∙ rw (add_comm 1 n, add-one n)
 
@@ -197,22 +202,13 @@ other-form word form other rest text vs p q d e =
     (λ b. word-missed rest other text q (begins-one word other text d b))
     (λ b. let z : none ≡ some vs = sym (word-missed form word text p b) ∙ e in let y : ◌≡◌ {A = ℕ} 0 1 = cc in absurd (omega arith))
 
--- ---- a line that was cut
-pub record Taken (kind : ℕ) (form text line found : List ℕ) : Type 0 where
-  pub bytes : 0 < length line
-  pub values : List ℕ
-  pub numbers : scan_ended form text ≡ some values
-  pub first : line ≡ first_line text
-  pub short : length line < length text
-  pub stored : found ≡ numbers_found_in kind values
+-- ---- a line that was cut, and the text behind it
+module _ (form text : List ℕ) {line found rest : List ℕ} (r : Cut (scan_ended form text) text line found rest) where
+  pub cut-short : length line < length text
+  cut-short = rw r.first (ended_some form text r.values r.scanned).short
 
-values_of : (kind : ℕ) (o : Option (List ℕ)) (found : List ℕ) → found_by kind o ≡ some found → (vs : List ℕ) × (o ≡ some vs) × (found ≡ numbers_found_in kind vs)
-values_of kind none found e = let z : ◌≡◌ {A = ℕ} 0 1 = cc in absurd (omega arith)
-values_of kind (some vs) found e = (vs, refl, cc)
+  pub cut-lines : lines_of text ≡ ended line ∷ lines_of rest
+  cut-lines = rw r.behind (line-behind text line r.first cut-short)
 
-pub cut-taken : {kind : ℕ} {form text line found : List ℕ} → Cut kind (scan_ended form text) text line found → 0 < length line
-    → Taken kind form text line found
-cut-taken {kind} {form} {text} {line} {found} r h =
-    let (q, e) = r.taken h in
-    let (vs, n, f) = values_of kind (scan_ended form text) found e in
-    record { bytes = h; values = vs; numbers = n; first = q; short = rw q (ended_some form text vs n).short; stored = f }
+  pub cut-left : length rest + length line < length text
+  cut-left = rw (r.behind, length-drop) (omega (arith, cut-short))

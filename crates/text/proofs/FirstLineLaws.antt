@@ -1,19 +1,22 @@
 -- Laws of the first line: what it and the text behind it are among the lines of the text.
 use Prim.Native.Nat.{ℕ, suc, ◌+◌, ◌-◌, ◌≤◌, ◌<◌}
-use mathlib.Core.Path.{◌≡◌, refl, ap, ◌∙◌}
+use mathlib.Core.Path.{◌≡◌, refl, sym, ap, ◌∙◌}
 use mathlib.Core.Bool.{Bool, true, false, not}
 use mathlib.Core.List.{List, [], ◌∷◌}
 use native.Mathlib.Omega.{arith}
 use native.Mathlib.Numerals.{add-one}
-use borrow.Author.Tests.{not-true, not-false}
+use borrow.Author.Tests.{not-true, not-false, lt-ltb, le-ltb}
 use lib.Dec.{eqb}
 use lib.ListN.{length, take, drop}
+use lib.Seq.{take_all}
+use Rattle.std.specs.Prelude.{Option, Some, None, position}
+use Rattle.std.specs.List.{prefix_len}
 use Rattle.rules.specs.Text.{ended, unended, lines_of}
-use Rattle.rules.proofs.Tests.{split}
+use Rattle.rules.proofs.Tests.{split, by_order}
 use Rattle.rules.proofs.LineLaws.{lines_end, lines_more}
 use Rattle.text.specs.FirstLine.{first_line}
 use Rattle.text.proofs.PartLaws.{tail-part}
-use Rattle.text.proofs.FrontLaws.{Front, front-within}
+use Rattle.text.proofs.FrontLaws.{Front, front-within, front-take}
 
 pub no-first : first_line [] ≡ []
 unfolding first_line
@@ -84,3 +87,19 @@ pub line-unended : (bs : List ℕ) → 0 < length bs → length (first_line bs) 
 line-unended [] p h = absurd (omega arith)
 line-unended (b ∷ []) p h = let (e, l) = whole-more b [] h in lines_more b [] e ∙ rw no_line
 line-unended (b ∷ c ∷ bs) p h = let (e, l) = whole-more b (c ∷ bs) h in lines_more b (c ∷ bs) e ∙ rw (line-unended (c ∷ bs) (omega arith) l)
+
+-- ---- the place of the first LF
+module _ (text : List ℕ) {r : Option ℕ} (e : r ≡ position (λ b. eqb b 10) text) where
+  pub line-cut : (n : ℕ) → r ≡ Some n → take n text ≡ first_line text
+  line-cut n h =
+      by_order (prefix_len in_line text) (length text)
+      (λ g.
+      let q : prefix_len in_line text ≡ n = let z = rw (lt-ltb _ _ g) at e in cc in
+      rw (← q) (sym (front-take line-front text)))
+      (λ g. let z : r ≡ None = rw (le-ltb _ _ g) at e in cc)
+
+  pub line-uncut : r ≡ None → text ≡ first_line text
+  line-uncut h =
+      by_order (prefix_len in_line text) (length text)
+      (λ g. let z : r ≡ Some (prefix_len in_line text) = rw (lt-ltb _ _ g) at e in cc)
+      (λ g. sym (front-take line-front text ∙ take_all _ text g))

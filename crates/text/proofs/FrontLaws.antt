@@ -3,10 +3,12 @@ use Prim.Native.Nat.{ℕ, ◌+◌, ◌≤◌, ◌<◌}
 use mathlib.Core.Path.{◌≡◌, refl, ap, ◌∙◌}
 use mathlib.Core.Bool.{Bool, true, false}
 use mathlib.Core.List.{List, [], ◌∷◌, ◌++◌, append_assoc, append-nil}
+use native.Mathlib.Nat.{add_comm}
 use native.Mathlib.Numerals.{add-one}
 use native.Mathlib.Omega.{arith}
 use lib.ListN.{length, get_or, take, drop, length-drop, drop_of_length-le}
 use lib.Seq.{take-suc, take-add, drop-cons, drop-drop}
+use Rattle.std.specs.List.{prefix_len}
 use Rattle.rules.proofs.Tests.{split}
 use Rattle.text.specs.FirstLine.{Passed}
 
@@ -21,6 +23,14 @@ front-within t [] = rw t.none (omega arith)
 front-within {p} t (x ∷ l) =
     let ih = front-within t l in
     split (p x) (λ e. rw (t.more x l e) (omega arith)) (λ e. rw (t.stop x l e) (omega arith))
+
+pub front-take : {p : ℕ → Bool} {f : List ℕ → List ℕ} (t : Front p f) (l : List ℕ) → f l ≡ take (prefix_len p l) l
+front-take t [] = t.none
+front-take {p} t (x ∷ l) =
+    let ih = front-take t l in
+    split (p x)
+    (λ e. t.more x l e ∙ rw (e, ih, add_comm 1 (prefix_len p l), add-one))
+    (λ e. t.stop x l e ∙ rw e)
 
 -- ---- the first n elements of l pass
 pub passed_none : (f : List ℕ → List ℕ) (l : List ℕ) → Passed f l 0

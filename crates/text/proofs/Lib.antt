@@ -1,5 +1,5 @@
 -- The laws that the proofs of this crate cite, in the order to read them. Other crates cite those of PartLaws, FirstLineLaws, CutLaws,
--- WroteLaws, SizeLaws and LaidLaws.
+-- DueLaws, WroteLaws, SizeLaws and LaidLaws.
 pub mod PartLaws
 -- reading
 pub mod FrontLaws
@@ -8,6 +8,7 @@ pub mod LineAtLaws
 pub mod ReadNumeralLaws
 pub mod CutLaws
 pub mod LineByLaws
+pub mod DueLaws
 -- writing
 pub mod WroteLaws
 pub mod WriteNumeralLaws

@@ -14,8 +14,8 @@ use Rattle.rules.proofs.Tests.{by_order}
 pub record Skipping (text : List ℕ) (n : ℕ) (rest : List ℕ) (left : ℕ) : Type 0 where
   pub same : line_from text n ≡ line_from rest left
 
-pub skipping-start : (text : List ℕ) (n : ℕ) → Skipping text n text n
-skipping-start text n = record { same = refl }
+pub skipping-start : (text : List ℕ) (n left : ℕ) → left ≡ n → Skipping text n text left
+skipping-start text n left e = rw e (record { same = refl })
 
 -- the lines of a text that is its first line
 only-line : (rest : List ℕ) (n : ℕ) → length rest ≤ length (first_line rest) → line_from rest (suc n) ≡ []
@@ -42,10 +42,10 @@ module _ {text : List ℕ} {n : ℕ} {rest : List ℕ} where
     skipping-none (suc m) s h g = s.same ∙ only-line rest m (rw e at g)
 
     pub skipping-more : (left : ℕ) → Skipping text n rest left → 0 < left → length line < length rest
-        → Skipping text n (take (length rest - (length line + 1)) (drop (length line + 1) rest)) (left - 1)
-    skipping-more zero s h g = absurd (omega arith)
-    skipping-more (suc m) s h g =
-        let q : suc m - 1 ≡ m = omega arith in
+        → (next : ℕ) → next + 1 ≡ left → Skipping text n (take (length rest - (length line + 1)) (drop (length line + 1) rest)) next
+    skipping-more zero s h g next f = absurd (omega arith)
+    skipping-more (suc m) s h g next f =
+        let q : next ≡ m = omega arith in
         record { same = s.same ∙ rw (q, line-part rest line e g) }
 
 -- a line's number counted from 1

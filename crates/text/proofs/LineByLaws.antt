@@ -1,26 +1,27 @@
 -- The loops that cut a line from the front of a text by a form: its word, and then its signs and numbers.
 use Prim.Native.Nat.{ℕ, suc, ◌+◌, ◌-◌, ◌≤◌, ◌<◌}
 use mathlib.Core.Path.{◌≡◌, refl, sym, ap, ◌∙◌}
-use mathlib.Core.Bool.{true, false, not, cond, ◌&&◌}
+use mathlib.Core.Bool.{true, false, not, ◌&&◌}
 use mathlib.Core.List.{List, [], ◌∷◌, ◌++◌}
 use mathlib.Core.Option.{Option, none, some}
 use native.Mathlib.Omega.{arith}
 use native.Mathlib.Numerals.{add-one}
-use borrow.Author.Tests.{eq-eqb, ne_eqb, eqb-true, not-true, lt-ltb, le-ltb}
-use lib.Dec.{eqb, ltb}
+use borrow.Author.Tests.{eq-eqb, ne_eqb, eqb-true, not-true}
+use lib.Dec.{eqb}
 use lib.ListN.{length, get_or, set, take, drop, length-set, length-drop, drop_of_length-le}
 use lib.Seq.{drop-cons, drop-drop, sets, set_out, take-append_seam, length-take-le}
-use Rattle.rules.specs.Text.{digits_of, value_from, is_number, starts_with, and_then}
-use Rattle.rules.proofs.Tests.{clash, by_order, and-true, and_no}
+use Rattle.rules.specs.Text.{digits_of, numeral, value_from, is_number, starts_with, and_then}
+use Rattle.rules.proofs.Tests.{clash, and-true}
 use Rattle.rules.proofs.NumeralLaws.{digits-split}
 use Rattle.text.specs.FirstLine.{first_line, Passed}
 use Rattle.text.specs.Numerals.{Spelled}
-use Rattle.text.specs.Cut.{begins, lineless, plain, Parted, scan_ended, numbers_found_in, found_by, Cut}
+use Rattle.std.specs.Cmp.Lexicographic.{pointwise}
+use Rattle.text.specs.Cut.{lineless, plain, Parted, scan_ended, first_four, Cut}
 use Rattle.text.proofs.PartLaws.{tail-part}
 use Rattle.text.proofs.FrontLaws.{front-within, passed_none, passed_on, passed-more, passed-stop}
 use Rattle.text.proofs.FirstLineLaws.{first_more, line-front}
-use Rattle.text.proofs.ReadNumeralLaws.{digits-front, told_none, told-some, told-size, told-value}
-use Rattle.text.proofs.CutLaws.{starts-long, line-digits, ended-no-sign, ended-sign, ended-no-number, ended-number, ended-end, ended-long}
+use Rattle.text.proofs.ReadNumeralLaws.{digits-front}
+use Rattle.text.proofs.CutLaws.{begins, starts-long, line-digits, ended-no-sign, ended-sign, ended-no-number, ended-number, ended-end, ended-long}
 use Rattle.text.proofs.CutLaws.{word-met, word-missed}
 
 -- ---- the byte at a place
@@ -38,32 +39,10 @@ module _ (s : ℕ) (text : List ℕ) (at : ℕ) where
   stands-is e = eqb-true s _ (sym (stands-some (stands-within e)) ∙ e)
 
 -- ---- the word
-pub begins-short : (word text : List ℕ) → length text < length word → begins word text ≡ false
-begins-short [] text h = absurd (omega arith)
-begins-short (s ∷ word) [] h = refl
-begins-short (s ∷ word) (b ∷ text) h = rw (begins-short word text (omega arith)) (and_no (eqb s b))
-
--- the first i bytes are the word's
-pub record Beginning (word text : List ℕ) (i : ℕ) : Type 0 where
-  pub room : length word ≤ length text
-  pub left : begins word text ≡ begins (drop i word) (drop i text)
-
-pub beginning-start : (word text : List ℕ) → length word ≤ length text → Beginning word text 0
-beginning-start word text h = record { room = h; left = refl }
-
-module _ {word text : List ℕ} {i : ℕ} (r : Beginning word text i) where
-  pub beginning-end : length word ≤ i → true ≡ begins word text
-  beginning-end h = sym (r.left ∙ rw (drop_of_length-le word h))
-
-  module _ (h : i < length word) where
-    next-byte : begins (drop i word) (drop i text) ≡ eqb (get_or word i 0) (get_or text i 0) && begins (drop (suc i) word) (drop (suc i) text)
-    next-byte = let g : i < length text = omega (arith, r.room) in rw (drop-cons word i 0 h, drop-cons text i 0 g)
-
-    pub beginning-other : (get_or word i 0 ≡ get_or text i 0 → ⊥) → false ≡ begins word text
-    beginning-other n = sym (r.left ∙ next-byte ∙ rw (ne_eqb _ _ n))
-
-    pub beginning-more : get_or word i 0 ≡ get_or text i 0 → Beginning word text (i + 1)
-    beginning-more e = record { room = r.room; left = r.left ∙ next-byte ∙ rw (eq-eqb _ _ e, add-one i) }
+pub begins-same : (word text : List ℕ) → pointwise eqb word (take (length word) text) ≡ begins word text
+begins-same [] text = refl
+begins-same (s ∷ word) [] = refl
+begins-same (s ∷ word) (b ∷ text) = rw (begins-same word text)
 
 -- ---- what the first line is passed by
 word-passed : (word text : List ℕ) → plain word ≡ true → begins word text ≡ true → Passed first_line text (length word)
@@ -91,74 +70,76 @@ abbrev stored_in : List ℕ → ℕ → Option (List ℕ) → Option (List ℕ)
 stored_in found count none = none
 stored_in found count (some vs) = some (sets found count vs)
 
+abbrev found_by : Option (List ℕ) → Option (List ℕ)
+found_by none = none
+found_by (some vs) = some (first_four vs)
+
 sets-out : (vs l : List ℕ) (i : ℕ) → length l ≤ i → sets l i vs ≡ l
 sets-out [] l i h = refl
 sets-out (v ∷ vs) l i h = rw (set_out l i v h) (sets-out vs l (suc i) (omega arith))
 
-found_in : (kind : ℕ) (vs : List ℕ) → numbers_found_in kind vs ≡ sets (kind ∷ 0 ∷ 0 ∷ 0 ∷ 0 ∷ []) 1 vs
-found_in kind [] = refl
-found_in kind (a ∷ []) = refl
-found_in kind (a ∷ b ∷ []) = refl
-found_in kind (a ∷ b ∷ c ∷ []) = refl
-found_in kind (a ∷ b ∷ c ∷ d ∷ vs) = sym (sets-out vs (kind ∷ a ∷ b ∷ c ∷ d ∷ []) 5 (omega arith))
+four_in : (vs : List ℕ) → first_four vs ≡ sets (0 ∷ 0 ∷ 0 ∷ 0 ∷ []) 0 vs
+four_in [] = refl
+four_in (a ∷ []) = refl
+four_in (a ∷ b ∷ []) = refl
+four_in (a ∷ b ∷ c ∷ []) = refl
+four_in (a ∷ b ∷ c ∷ d ∷ vs) = sym (sets-out vs (a ∷ b ∷ c ∷ d ∷ []) 4 (omega arith))
 
-found-start : (kind : ℕ) (o : Option (List ℕ)) → found_by kind o ≡ stored_in (kind ∷ 0 ∷ 0 ∷ 0 ∷ 0 ∷ []) 1 o
-found-start kind none = refl
-found-start kind (some vs) = ap some (found_in kind vs)
+found-start : (o : Option (List ℕ)) → found_by o ≡ stored_in (0 ∷ 0 ∷ 0 ∷ 0 ∷ []) 0 o
+found-start none = refl
+found-start (some vs) = ap some (four_in vs)
 
 found-more : (found : List ℕ) (count v : ℕ) (o : Option (List ℕ)) → stored_in found count (and_then v o) ≡ stored_in (set found count v) (suc count) o
 found-more found count v none = refl
 found-more found count v (some vs) = refl
 
--- a number is stored in the five places, or nowhere
-put-set : (found : List ℕ) (place v : ℕ) → length found ≡ 5 → (new : List ℕ) → new ≡ cond (ltb place 5) (set found place v) found
-    → new ≡ set found place v
-put-set found place v l new e =
-    e ∙ by_order place 5 (λ h. rw (lt-ltb place 5 h)) (λ h. rw (le-ltb place 5 h) (sym (set_out found place v (omega arith))))
+found-none : (o : Option (List ℕ)) → found_by o ≡ none → o ≡ none
+found-none none e = refl
+found-none (some vs) e = let z : ◌≡◌ {A = ℕ} 0 1 = cc in absurd (omega arith)
 
--- ---- no line
-no-numbers : (kind : ℕ) (o : Option (List ℕ)) → found_by kind o ≡ none → o ≡ none
-no-numbers kind none e = refl
-no-numbers kind (some vs) e = let z : ◌≡◌ {A = ℕ} 0 1 = cc in absurd (omega arith)
-
-no_cut : (kind : ℕ) (o : Option (List ℕ)) (text found : List ℕ) → found_by kind o ≡ none → Cut kind o text [] found
-no_cut kind o text found e = record { missed = λ z. no-numbers kind o e; taken = λ h. absurd (omega arith) }
+found-some : (o : Option (List ℕ)) (found : List ℕ) → found_by o ≡ some found → (vs : List ℕ) × (o ≡ some vs) × (found ≡ first_four vs)
+found-some none found e = let z : ◌≡◌ {A = ℕ} 0 1 = cc in absurd (omega arith)
+found-some (some vs) found e = (vs, refl, cc)
 
 -- ---- the loop over what follows the word, from `start` on
-pub record Scanning (form text : List ℕ) (start kind : ℕ) (found : List ℕ) (at count i : ℕ) : Type 0 where
-  pub five : length found ≡ 5
-  pub behind : count ≤ i + 1
-  pub beyond : 0 < at
+pub record Scanning (form text : List ℕ) (start : ℕ) (found : List ℕ) (at count i : ℕ) : Type 0 where
+  pub four : length found ≡ 4
+  pub behind : count ≤ i
   pub passed : Passed first_line text at
   pub signs : lineless (drop i form) ≡ true
-  pub left : found_by kind (scan_ended form (drop start text)) ≡ stored_in found count (scan_ended (drop i form) (drop at text))
+  pub left : found_by (scan_ended form (drop start text)) ≡ stored_in found count (scan_ended (drop i form) (drop at text))
 
-pub scanning-start : (form text : List ℕ) (start kind : ℕ) → lineless form ≡ true → 0 < start → Passed first_line text start
-    → Scanning form text start kind (kind ∷ 0 ∷ 0 ∷ 0 ∷ 0 ∷ []) start 1 0
-scanning-start form text start kind l h p =
-    record { five = refl; behind = omega arith; beyond = h; passed = p; signs = l; left = found-start kind (scan_ended form (drop start text)) }
+pub scanning-start : (form text : List ℕ) (start : ℕ) → lineless form ≡ true → Passed first_line text start
+    → Scanning form text start (0 ∷ 0 ∷ 0 ∷ 0 ∷ []) start 0 0
+scanning-start form text start l p =
+    record { four = refl; behind = omega arith; passed = p; signs = l; left = found-start (scan_ended form (drop start text)) }
 
-module _ {form text : List ℕ} {start kind : ℕ} {found : List ℕ} {at count i : ℕ} (r : Scanning form text start kind found at count i) where
-  abbrev Ends : List ℕ → Type 0
-  Ends line = Cut kind (scan_ended form (drop start text)) text line found
-
-  ends-none : scan_ended (drop i form) (drop at text) ≡ none → Ends []
-  ends-none e = no_cut kind (scan_ended form (drop start text)) text found (r.left ∙ rw e)
+module _ {form text : List ℕ} {start : ℕ} {found : List ℕ} {at count i : ℕ} (r : Scanning form text start found at count i) where
+  ends-none : scan_ended (drop i form) (drop at text) ≡ none → scan_ended form (drop start text) ≡ none
+  ends-none e = found-none (scan_ended form (drop start text)) (r.left ∙ rw e)
 
   module _ (h : length form ≤ i) where
     form-done : drop i form ≡ []
     form-done = drop_of_length-le form h
 
-    pub scanning-long : starts_with 10 (drop at text) ≡ false → Ends []
+    pub scanning-long : starts_with 10 (drop at text) ≡ false → scan_ended form (drop start text) ≡ none
     scanning-long e = ends-none (rw form-done (ended-long (drop at text) e))
 
-    pub scanning-end : starts_with 10 (drop at text) ≡ true → Ends (take at text)
+    pub scanning-within : starts_with 10 (drop at text) ≡ true → at < length text
+    scanning-within e = stands-within 10 text at e
+
+    pub scanning-end : starts_with 10 (drop at text) ≡ true
+        → Cut (scan_ended form (drop start text)) text (take at text) found (take (length text - (at + 1)) (drop (at + 1) text))
     scanning-end e =
         let q : first_line text ≡ take at text =
         passed-stop line-front r.passed (stands-within 10 text at e) (ap not (eq-eqb _ _ (sym (stands-is 10 text at e)))) in
+        let (vs, s, f) = found-some (scan_ended form (drop start text)) found (r.left ∙ rw (form-done, ended-end (drop at text) e)) in
         record {
-          missed = λ z. absurd (omega (arith, r.beyond, length-take-le at text r.passed.within));
-          taken = λ g. (sym q, r.left ∙ rw (form-done, ended-end (drop at text) e));
+          first = sym q;
+          behind = rw (length-take-le at text r.passed.within) (tail-part text (at + 1));
+          values = vs;
+          scanned = s;
+          stored = f;
         }
 
   module _ (h : i < length form) where
@@ -168,61 +149,57 @@ module _ {form text : List ℕ} {start kind : ℕ} {found : List ℕ} {at count 
     no-lf : (not (eqb (get_or form i 0) 10) ≡ true) × (lineless (drop (suc i) form) ≡ true)
     no-lf = and-true (not (eqb (get_or form i 0) 10)) (lineless (drop (suc i) form)) (rw next-sign at r.signs)
 
-    module _ (s : get_or form i 0 ≡ 35) (v n : ℕ) (o : Spelled (take (length text - at) (drop at text)) v n) where
-      spelled-on : Spelled (drop at text) v n
-      spelled-on = rw (tail-part text at) at o
+    module _ (s : get_or form i 0 ≡ 35) where
+      pub scanning-no-number : numeral (digits_of (take (length text - at) (drop at text))) ≡ false → scan_ended form (drop start text) ≡ none
+      scanning-no-number e =
+          ends-none (rw next-sign (ended-no-number (get_or form i 0) (drop (suc i) form) (drop at text) (eq-eqb _ _ s) (rw (tail-part text at) at e)))
 
-      pub scanning-no-number : n ≡ 0 → Ends []
-      scanning-no-number z =
-          ends-none (rw next-sign (ended-no-number (get_or form i 0) (drop (suc i) form) (drop at text) (eq-eqb _ _ s) (told_none spelled-on z)))
+      module _ {v n : ℕ} (o : Spelled (take (length text - at) (drop at text)) v n) where
+        spelled-on : Spelled (drop at text) v n
+        spelled-on = rw (tail-part text at) at o
 
-      next-number : (n ≡ 0 → ⊥) → Scanning form text start kind (set found count v) (at + n) (count + 1) (i + 1)
-      next-number z =
-          let size : n ≡ length (digits_of (drop at text)) = told-size spelled-on z in
-          let value : v ≡ value_from 0 (digits_of (drop at text)) = told-value spelled-on z in
-          let rest : drop n (drop at text) ≡ drop (at + n) text = drop-drop n at text in
-          record {
-            five = length-set found count v ∙ r.five;
-            behind = omega (arith, r.behind);
-            beyond = omega (arith, r.beyond);
-            passed = passed_on r.passed (rw size (digits-passed (drop at text)));
-            signs = rw (add-one i) no-lf.1;
-            left =
-                r.left
-                ∙ rw (
-                  next-sign,
-                  ended-number (get_or form i 0) (drop (suc i) form) (drop at text) (eq-eqb _ _ s) (told-some spelled-on z),
-                  ← size,
-                  ← value,
-                  rest,
-                  add-one i,
-                  add-one count,
-                )
-                (found-more found count v (scan_ended (drop (suc i) form) (drop (at + n) text)));
-          }
+        pub scanning-number : Scanning form text start (set found count v) (at + n) (count + 1) (i + 1)
+        scanning-number =
+            let size : n ≡ length (digits_of (drop at text)) = spelled-on.size in
+            let value : v ≡ value_from 0 (digits_of (drop at text)) = spelled-on.value in
+            let rest : drop n (drop at text) ≡ drop (at + n) text = drop-drop n at text in
+            record {
+              four = length-set found count v ∙ r.four;
+              behind = omega (arith, r.behind);
+              passed = passed_on r.passed (rw size (digits-passed (drop at text)));
+              signs = rw (add-one i) no-lf.1;
+              left =
+                  r.left
+                  ∙ rw (
+                    next-sign,
+                    ended-number (get_or form i 0) (drop (suc i) form) (drop at text) (eq-eqb _ _ s) spelled-on.is_numeral,
+                    ← size,
+                    ← value,
+                    rest,
+                    add-one i,
+                    add-one count,
+                  )
+                  (found-more found count v (scan_ended (drop (suc i) form) (drop (at + n) text)));
+            }
 
-      pub number-within : (n ≡ 0 → ⊥) → at + n ≤ length text
-      number-within z = (next-number z).passed.within
-
-      pub scanning-number : (n ≡ 0 → ⊥) → (new : List ℕ) → new ≡ cond (ltb count 5) (set found count v) found
-          → Scanning form text start kind new (at + n) (count + 1) (i + 1)
-      scanning-number z new e = rw (put-set found count v r.five new e) (next-number z)
+        -- a fifth number has no place
+        pub scanning-fifth : 4 ≤ count → Scanning form text start found (at + n) (count + 1) (i + 1)
+        scanning-fifth g = rw (set_out found count v (omega (arith, r.four))) at scanning-number
 
     module _ (s : get_or form i 0 ≡ 35 → ⊥) where
-      pub scanning-no-sign : starts_with (get_or form i 0) (drop at text) ≡ false → Ends []
+      pub scanning-no-sign : starts_with (get_or form i 0) (drop at text) ≡ false → scan_ended form (drop start text) ≡ none
       scanning-no-sign e =
           ends-none
           (rw next-sign (ended-no-sign (get_or form i 0) (drop (suc i) form) (drop at text) (ne_eqb _ _ s) (not-true _ no-lf.0) e))
 
-      pub scanning-sign : starts_with (get_or form i 0) (drop at text) ≡ true → Scanning form text start kind found (at + 1) count (i + 1)
+      pub scanning-sign : starts_with (get_or form i 0) (drop at text) ≡ true → Scanning form text start found (at + 1) count (i + 1)
       scanning-sign e =
           let w : at < length text = stands-within (get_or form i 0) text at e in
           let q : get_or form i 0 ≡ get_or text at 0 = stands-is (get_or form i 0) text at e in
           let rest : drop 1 (drop at text) ≡ drop (at + 1) text = drop-drop 1 at text in
           record {
-            five = r.five;
+            four = r.four;
             behind = omega (arith, r.behind);
-            beyond = omega arith;
             passed = passed-more line-front r.passed w (rw q at no-lf.0);
             signs = rw (add-one i) no-lf.1;
             left =
@@ -236,14 +213,13 @@ module _ {form text : List ℕ} {start kind : ℕ} {found : List ℕ} {at count 
           }
 
 -- ---- the word, and what follows it
-module _ {word form : List ℕ} (p : Parted word form) (text : List ℕ) (kind : ℕ) where
-  pub word-no-cut : begins word text ≡ false → (found : List ℕ) → Cut kind (scan_ended (word ++ form) text) text [] found
-  word-no-cut e found = no_cut kind _ text found (rw (word-missed form word text p.plain e))
+module _ {word form : List ℕ} (p : Parted word form) (text : List ℕ) where
+  pub word-no-line : begins word text ≡ false → scan_ended (word ++ form) text ≡ none
+  word-no-line e = word-missed form word text p.plain e
 
   module _ (e : begins word text ≡ true) where
     pub behind-word : Passed first_line text (length word)
     behind-word = word-passed word text p.plain e
 
-    pub word_cut : {line found : List ℕ} → Cut kind (scan_ended form (drop (length word) text)) text line found
-        → Cut kind (scan_ended (word ++ form) text) text line found
-    word_cut o = rw (word-met form word text p.plain e) o
+    pub word-line : scan_ended (word ++ form) text ≡ scan_ended form (drop (length word) text)
+    word-line = word-met form word text p.plain e

@@ -12,7 +12,7 @@ use lib.ListN.{length, get_or, drop, drop_of_length-le}
 use lib.Seq.{drop-cons}
 use Rattle.rules.specs.Limits.{max_digits}
 use Rattle.rules.specs.Text.{digit, digits_of, numeral, value_from}
-use Rattle.rules.proofs.Tests.{split, clash, is_false, by_order}
+use Rattle.rules.proofs.Tests.{split, is_false}
 use Rattle.rules.proofs.NumeralLaws.{digits_more, digits-stop, numeral-long}
 use Rattle.text.specs.Numerals.{Summed, Spelled}
 use Rattle.text.proofs.FrontLaws.{Front, front-within}
@@ -57,11 +57,8 @@ pub record Summing (text : List ℕ) (v n : ℕ) : Type 0 where
 pub summing-none : (text : List ℕ) → Summing text 0 0
 summing-none text = record { within = omega arith; few = omega arith; small = omega arith; size = omega arith; value = refl }
 
-spells-none : (text : List ℕ) → numeral (digits_of text) ≡ false → Spelled text 0 0
-spells-none text e = record { size = rw e; value = λ t. clash t e }
-
 spells : (text : List ℕ) {v n : ℕ} → Summed text v n → numeral (digits_of text) ≡ true → Spelled text v n
-spells text s e = record { size = rw e s.size; value = λ t. s.value }
+spells text s e = record { is_numeral = e; size = s.size; value = s.value }
 
 module _ {text : List ℕ} {v n : ℕ} (r : Summing text v n) where
   pub summing-below : v + 24 ≤ 24 * 10 ^ max_digits
@@ -70,8 +67,8 @@ module _ {text : List ℕ} {v n : ℕ} (r : Summing text v n) where
   all-met : digits_of (drop n text) ≡ [] → Summed text v n
   all-met e = record { few = r.few; size = sym (r.size ∙ rw e (add-zero n)); value = sym (r.value ∙ rw e) }
 
-  pub summing-end : length text ≤ n → Summed text v n
-  summing-end h = all-met (rw (drop_of_length-le text h) no-digits)
+  pub summing-end : length text ≤ n → (size : ℕ) → size ≡ n → Summed text v size
+  summing-end h size e = rw e (all-met (rw (drop_of_length-le text h) no-digits))
 
   module _ (h : n < length text) where
     pub summing-stop : digit (get_or text n 0) ≡ false → Summed text v n
@@ -92,10 +89,9 @@ module _ {text : List ℕ} {v n : ℕ} (r : Summing text v n) where
           }
 
       -- a digit more than a number has
-      pub summing-long : n ≡ max_digits → Spelled text 0 0
+      pub summing-long : n ≡ max_digits → numeral (digits_of text) ≡ false
       summing-long k =
-          spells-none text
-          (is_false _ (λ t. omega (arith, numeral-long max_digits (omega arith) (digits_of text) t, r.size, ap length next-digit)))
+          is_false _ (λ t. omega (arith, numeral-long max_digits (omega arith) (digits_of text) t, r.size, ap length next-digit))
 
 -- ---- all digits are met
 first-digit : (text : List ℕ) → 0 < length (digits_of text) → get_or text 0 0 ≡ get_or (digits_of text) 0 0
@@ -109,39 +105,18 @@ module _ {text : List ℕ} {v n : ℕ} (s : Summed text v n) where
   pub read_at : 1 < n → 0 < length text
   read_at h = omega (arith, s.size, front-within digits-front text)
 
-  pub spells-few : n ≤ 1 → Spelled text v n
-  spells-few h =
-      by_order 0 n
-      (λ p. spells text s (numeral-one (digits_of text) (omega (arith, s.size))))
-      (λ p.
-      let e : numeral (digits_of text) ≡ false = numeral-none (digits_of text) (omega (arith, s.size)) in
-      record { size = rw e (omega arith); value = λ t. clash t e })
+  pub no-digit : n ≡ 0 → numeral (digits_of text) ≡ false
+  no-digit z = numeral-none (digits_of text) (omega (arith, s.size))
+
+  pub one-digit : n ≡ 1 → Spelled text v n
+  one-digit h = spells text s (numeral-one (digits_of text) (omega (arith, s.size)))
 
   module _ (h : 1 < n) where
-    pub spells-zero : get_or text 0 0 ≡ 48 → Spelled text 0 0
-    spells-zero z = spells-none text (numeral-zero (digits_of text) (omega (arith, s.size)) (sym (first-digit text (omega (arith, s.size))) ∙ z))
+    pub zero-leads : get_or text 0 0 ≡ 48 → numeral (digits_of text) ≡ false
+    zero-leads z = numeral-zero (digits_of text) (omega (arith, s.size)) (sym (first-digit text (omega (arith, s.size))) ∙ z)
 
-    pub spells-many : (get_or text 0 0 ≡ 48 → ⊥) → Spelled text v n
-    spells-many z =
+    pub many-digits : (get_or text 0 0 ≡ 48 → ⊥) → Spelled text v n
+    many-digits z =
         spells text s
         (numeral-many (digits_of text) (omega (arith, s.size)) (λ e. z (first-digit text (omega (arith, s.size)) ∙ e))
         ∙ le-leb (length (digits_of text)) max_digits (omega (arith, s.few, s.size)))
-
--- ---- what a reader of numerals is told
-module _ {text : List ℕ} {v n : ℕ} (s : Spelled text v n) where
-  pub told_none : n ≡ 0 → numeral (digits_of text) ≡ false
-  told_none z =
-      is_false _
-      (λ t. let e : n ≡ length (digits_of text) = s.size ∙ rw t in clash t (numeral-none (digits_of text) (omega arith)))
-
-  pub told-some : (n ≡ 0 → ⊥) → numeral (digits_of text) ≡ true
-  told-some z =
-      split (numeral (digits_of text))
-      (λ t. t)
-      (λ f. absurd (z (s.size ∙ rw f)))
-
-  pub told-size : (n ≡ 0 → ⊥) → n ≡ length (digits_of text)
-  told-size z = s.size ∙ rw (told-some z)
-
-  pub told-value : (n ≡ 0 → ⊥) → v ≡ value_from 0 (digits_of text)
-  told-value z = s.value (told-some z)

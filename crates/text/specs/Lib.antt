@@ -2,4 +2,5 @@
 pub mod FirstLine
 pub mod Numerals
 pub mod Cut
+pub mod Due
 pub mod Wrote

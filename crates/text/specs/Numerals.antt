@@ -1,5 +1,5 @@
 -- What is read at the front of a text that starts with digits.
-use Rattle.std.specs.Prelude.{ℕ, ◌≤◌, ◌≡◌, true, cond, List, length}
+use Rattle.std.specs.Prelude.{ℕ, ◌≤◌, ◌≡◌, true, List, length}
 use Rattle.rules.specs.Limits.{max_digits}
 use Rattle.rules.specs.Text.{digits_of, numeral, value_from}
 
@@ -9,7 +9,8 @@ pub record Summed (text : List ℕ) (v n : ℕ) : Type 0 where
   pub size : n ≡ length (digits_of text)
   pub value : v ≡ value_from 0 (digits_of text)
 
--- the digits spell the number v and are n, or spell none, and n is 0
+-- the digits spell the number v, and are n
 pub record Spelled (text : List ℕ) (v n : ℕ) : Type 0 where
-  pub size : n ≡ cond (numeral (digits_of text)) (length (digits_of text)) 0
-  pub value : numeral (digits_of text) ≡ true → v ≡ value_from 0 (digits_of text)
+  pub is_numeral : numeral (digits_of text) ≡ true
+  pub size : n ≡ length (digits_of text)
+  pub value : v ≡ value_from 0 (digits_of text)

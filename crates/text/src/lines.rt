@@ -1,20 +1,30 @@
 // Lines.
-ghost use Rattle.std.specs.Prelude.{◌≡◌};
+ghost use Rattle.std.specs.Prelude.{◌≡◌, ◌==◌, position};
 ghost use Rattle.rules.specs.Calls.{line_at};
 ghost use Rattle.text.specs.FirstLine.{first_line, line_from};
+
+// What was taken from the front of a text, and the text behind it.
+#[derive(Clone, Copy)]
+pub struct Taken<'a, T> {
+    pub value: T,
+    pub rest: &'a [u8],
+}
+
+// The place of the first LF.
+fn first_lf(text: &[u8]) -> Option<usize>
+    ensures { result ≡ position (λ b. b == 10) text.now }
+{
+    text.iter().position(|b| *b == b'\n')
+}
 
 // The part of `text` before its first LF, all of it where there is none.
 fn first_line(text: &[u8]) -> &[u8]
     ensures { result.now ≡ first_line text.now }
 {
-    let mut n = 0;
-    while n < text.len() {
-        if text[n] == b'\n' {
-            return &text[..n];
-        }
-        n += 1;
+    match first_lf(text) {
+        Some(n) => &text[..n],
+        None => text,
     }
-    &text[..n]
 }
 
 // The line at a place counted from 0, without its LF; empty where there is none.
@@ -22,14 +32,12 @@ fn line_from(text: &[u8], n: u64) -> &[u8]
     ensures { result.now ≡ line_from text.now n }
 {
     let mut rest = text;
-    let mut left = n;
-    while 0 < left {
+    for _k in 0..n {
         let len = first_line(rest).len();
         if rest.len() <= len {
-            return &rest[..0];
+            return &[];
         }
         rest = &rest[len + 1..];
-        left -= 1;
     }
     first_line(rest)
 }
@@ -39,7 +47,7 @@ pub fn line_at(text: &[u8], k: u64) -> &[u8]
     ensures { result.now ≡ line_at text.now k }
 {
     if k == 0 {
-        return &text[..0];
+        return &[];
     }
     line_from(text, k - 1)
 }

@@ -1,29 +1,13 @@
 // Numerals: decimal digits, at most `MAX_DIGITS` of them when read, with no leading zero. What is read is the number whose decimal digits
 // they are (`NumberLaw` of crate rules).
-ghost use Rattle.std.specs.Prelude.{◌≡◌, ◌-◌, ◌≤◌, length};
-ghost use Rattle.rules.specs.Text.{digit, decimal};
+ghost use Rattle.std.specs.Prelude.{◌≡◌, ◌≤◌, false, length, MatchOption};
+ghost use Rattle.rules.specs.Text.{decimal, digits_of, numeral};
 ghost use Rattle.text.specs.Numerals.{Summed, Spelled};
 ghost use Rattle.text.specs.Wrote.{Wrote};
 
 use rules::Board;
 
-fn is_digit(b: u8) -> bool
-    ensures { result ≡ digit b }
-{
-    if b < b'0' {
-        return false;
-    }
-    b <= b'9'
-}
-
-// What a digit adds to a number.
-fn units(d: u8) -> u64
-    ensures { result ≡ d - 48 }
-{
-    if d < b'0' { 0 } else { (d - b'0') as u64 }
-}
-
-// A number at the front of a text, and how many digits spell it; 0 digits where none is there.
+// A number at the front of a text, and how many digits spell it.
 #[derive(Clone, Copy)]
 pub struct Numeral {
     pub value: u64,
@@ -31,35 +15,32 @@ pub struct Numeral {
 }
 
 // What a text's first digits spell: nothing where a zero leads others.
-fn spelled(text: &[u8], value: u64, size: usize) -> Numeral
+fn spelled(text: &[u8], value: u64, size: usize) -> Option<Numeral>
     requires { Summed text.now value size }
-    ensures { Spelled text.now result.value result.size }
+    ensures { MatchOption result (numeral (digits_of text.now) ≡ false) (λ r. Spelled text.now r.value r.size) }
 {
-    if 1 < size {
-        if text[0] == b'0' {
-            return Numeral { value: 0, size: 0 };
-        }
+    if size == 0 || 1 < size && text[0] == b'0' {
+        None
+    } else {
+        Some(Numeral { value, size })
     }
-    Numeral { value, size }
 }
 
 // The number at the front of `text`.
-pub fn number(text: &[u8]) -> Numeral
-    ensures { Spelled text.now result.value result.size }
+pub fn number(text: &[u8]) -> Option<Numeral>
+    ensures { MatchOption result (numeral (digits_of text.now) ≡ false) (λ r. Spelled text.now r.value r.size) }
 {
-    let mut v = 0;
-    let mut n = 0;
-    while n < text.len() {
-        if !is_digit(text[n]) {
-            return spelled(text, v, n);
+    let mut value = 0;
+    for (n, b) in text.iter().enumerate() {
+        if !b.is_ascii_digit() {
+            return spelled(text, value, n);
         }
         if n == Board::MAX_DIGITS {
-            return Numeral { value: 0, size: 0 };
+            return None;
         }
-        v = v * 10 + units(text[n]);
-        n += 1;
+        value = value * 10 + u64::from(*b - b'0');
     }
-    spelled(text, v, n)
+    spelled(text, value, text.len())
 }
 
 // How many digits a number has.
@@ -69,7 +50,7 @@ pub fn number_size(value: u64) -> usize
     let mut n = 1;
     let mut v = value;
     while 10 <= v {
-        v = v / 10;
+        v /= 10;
         n += 1;
     }
     n
@@ -81,12 +62,10 @@ pub fn write_number(out: &mut [u8], value: u64) -> usize
     ensures { Wrote (decimal value) result out.old out.new }
 {
     let n = number_size(value);
-    let mut k = n;
     let mut v = value;
-    while 0 < k {
-        k -= 1;
+    for k in (0..n).rev() {
         out[k] = b'0' + (v % 10) as u8;
-        v = v / 10;
+        v /= 10;
     }
     n
 }

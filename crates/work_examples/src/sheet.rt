@@ -1,7 +1,6 @@
 // A sheet with W, and what was read of it written in the same forms: the same bytes.
 ghost use Rattle.model.specs.Layout.{JobInBounds};
 
-use instance::InstanceRead;
 use model::layout;
 use model::layout::Shape;
 use std::io::Result;
@@ -24,7 +23,7 @@ fn show(rt: &impl Print, sheet: &[u8]) -> Result<()> {
     rt.write_all(sheet)?;
     rt.write_all(b"written back:\n")?;
     let mut job = layout::Numbers::new();
-    let InstanceRead::Accepted(shape) = instance::read(sheet, &mut job) else {
+    let Ok(shape) = instance::read(sheet, &mut job) else {
         return Ok(());
     };
     print_sheet(rt, shape, &job)

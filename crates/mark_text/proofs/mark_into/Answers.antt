@@ -6,8 +6,8 @@ use Rattle.schedule.proofs.ReadLaws.{read-spellable, was_read}
 use Rattle.mark_text.proofs.PaperLaws.{paper-judged, paper-refused}
 use Rattle.mark_text.proofs.mark_into.Goals as goal
 
-pub read-requires : goal.read-requires
-read-requires c = job-bounds c.args.shape (job_of c.args.job.now) c.requires
+pub invariant_of-lent : goal.invariant_of-lent
+invariant_of-lent c = record { in_bounds = job-bounds c.args.shape (job_of c.args.job.now) c.requires }
 
 pub judge-requires : goal.judge-requires
 judge-requires c =
@@ -15,22 +15,22 @@ judge-requires c =
     let J = job_of c.args.job.now in
     let L = entries_of c.read.new.schedule in
     let r = was_read (instance_from b J) c.args.paper.now (schedule_from b L) c.read.result
-    c.read.ensures c.in-Read.is in
+    c.read.ensures c.in-Ok.is in
     let p = read-spellable b J L _ c.args.paper.now r in record {
       well_formed = c.requires;
       in_bounds = record { job = job-bounds b J c.requires; schedule = spelled-bounds b J L _ p };
       placed = spelled-placed b J L _ p;
     }
 
-pub returns-in-Refused : goal.returns-in-Refused
-returns-in-Refused c =
+pub returns-in-Err : goal.returns-in-Err
+returns-in-Err c =
     let I = instance_from c.args.shape (job_of c.args.job.now) in
     paper-refused I c.args.paper.now _ c.read.result
-    c.read.ensures c.in-Refused.is c.timetable_number.ensures
+    c.read.ensures c.in-Err.is c.number.ensures c.place.ensures
     c.refused.ensures
 
-pub returns-in-Read : goal.returns-in-Read
-returns-in-Read c =
+pub returns-in-Ok : goal.returns-in-Ok
+returns-in-Ok c =
     let I = instance_from c.args.shape (job_of c.args.job.now) in
     paper-judged I c.args.paper.now _ c.read.result c.read.ensures
-    c.in-Read.is c.judge.ensures
+    c.in-Ok.is c.judge.ensures

@@ -2,7 +2,8 @@
 use Rattle.model.specs.Layout.{job_of, entries_of, instance_from, schedule_from}
 use Rattle.model.proofs.SpelledLaws.{spelled-placed, spelled-bounds}
 use Rattle.schedule.proofs.ReadLaws.{read-spellable, was_read}
-use Rattle.simulate_text.proofs.PaperLaws.{paper-watched}
+use Rattle.simulate_text.proofs.PaperLaws.{paper-watched, paper-refused}
+use Rattle.std.proofs.lemmas.Result.{err_from_is_err_and}
 use Rattle.simulate_text.proofs.simulate_paper.Goals as goal
 
 pub invariant_of-timetable : goal.invariant_of-timetable
@@ -10,7 +11,7 @@ invariant_of-timetable c =
     let b = c.args.job.now.shape in
     let J = job_of c.args.job.now.numbers.now in
     let L = entries_of c.read.new.schedule in
-    let w = was_read (instance_from b J) c.args.paper.now (schedule_from b L) c.read.result c.read.ensures c.in-Read.is in
+    let w = was_read (instance_from b J) c.args.paper.now (schedule_from b L) c.read.result c.read.ensures c.in_ok-_claim.was in
     record { in_bounds = spelled-bounds b J L _ (read-spellable b J L _ c.args.paper.now w) }
 
 pub watch-requires-clause-placed : goal.watch-requires-clause-placed
@@ -18,16 +19,24 @@ watch-requires-clause-placed c =
     let b = c.args.job.now.shape in
     let J = job_of c.args.job.now.numbers.now in
     let L = entries_of c.read.new.schedule in
-    let w = was_read (instance_from b J) c.args.paper.now (schedule_from b L) c.read.result c.read.ensures c.in-Read.is in
+    let w = was_read (instance_from b J) c.args.paper.now (schedule_from b L) c.read.result c.read.ensures c.in_ok-_claim.was in
     spelled-placed b J L _ (read-spellable b J L _ c.args.paper.now w)
 
-pub returns-in-Read : goal.returns-in-Read
-returns-in-Read c =
+pub returns-in_err-_claim : goal.returns-in_err-_claim
+returns-in_err-_claim c =
+    let b = c.args.job.now.shape in
+    let p = err_from_is_err_and c.from_residual.result c.from_residual.ensures.1 in
+    rw (p.1, p.2)
+    (paper-refused (instance_from b (job_of c.args.job.now.numbers.now)) c.args.paper.now (schedule_from b (entries_of c.read.new.schedule)) c.read.result
+    c.read.ensures c.args.made c.args.steps c.in_err-_claim.was)
+
+pub returns : goal.returns
+returns c =
     let b = c.args.job.now.shape in
     let J = job_of c.args.job.now.numbers.now in
     let L = entries_of c.read.new.schedule in
     let I = instance_from b J in
     let P = schedule_from b L in
-    let w = was_read I c.args.paper.now P c.read.result c.read.ensures c.in-Read.is in
-    paper-watched I c.args.paper.now P c.read.result c.read.ensures c.args.made c.args.steps c.requires c.in-Read.is
+    let w = was_read I c.args.paper.now P c.read.result c.read.ensures c.in_ok-_claim.was in
+    paper-watched I c.args.paper.now P c.read.result c.read.ensures c.args.made c.args.steps c.requires c.in_ok-_claim.was
     (read-spellable b J L _ c.args.paper.now w) c.wanted_steps.ensures c.watch.ensures

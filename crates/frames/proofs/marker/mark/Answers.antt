@@ -9,21 +9,21 @@ mark_paper-requires c =
     let xs = c.read.new.job in
     well-formed c.args.sheet.now _ xs
     (read-accepted c.args.sheet.now c.read.result xs c.read.ensures _
-    c.in-Accepted.is)
+    c.in-Ok.is)
 
-pub returns-in-Refused : goal.returns-in-Refused
-returns-in-Refused c =
+pub returns-in-Err : goal.returns-in-Err
+returns-in-Err c =
     let v = marked_refused c.args.sheet.now c.args.paper.now _ c.read.result
-    c.read.ensures c.in-Refused.is c.sheet_number.ensures
+    c.read.ensures c.in-Err.is c.number.ensures c.place.ensures
     c.refused.ensures in record {
       answer = v;
       marker_demands = marker-demands c.args.sheet.now c.args.paper.now v;
     }
 
-pub returns-in-Accepted : goal.returns-in-Accepted
-returns-in-Accepted c =
+pub returns-in-Ok : goal.returns-in-Ok
+returns-in-Ok c =
     let v = marked-on c.args.sheet.now c.args.paper.now _ c.read.result
-    c.read.ensures c.in-Accepted.is c.mark_paper.ensures in record {
+    c.read.ensures c.in-Ok.is c.mark_paper.ensures in record {
       answer = v;
       marker_demands = marker-demands c.args.sheet.now c.args.paper.now v;
     }

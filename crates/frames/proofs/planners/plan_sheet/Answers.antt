@@ -9,16 +9,16 @@ plan_instance-requires c =
     let xs = c.read.new.job in
     well-formed c.args.sheet.now _ xs
     (read-accepted c.args.sheet.now c.read.result xs
-    c.read.ensures _ c.in-Accepted.is)
+    c.read.ensures _ c.in-Ok.is)
 
-pub returns-in-Refused : goal.returns-in-Refused
-returns-in-Refused c =
+pub returns-in-Err : goal.returns-in-Err
+returns-in-Err c =
     unread (as_planner c.args.rule) c.args.sheet.now c.args.out.now _ c.read.result
-    c.read.ensures c.in-Refused.is c.sheet_number.ensures
+    c.read.ensures c.in-Err.is c.number.ensures c.place.ensures
 
-pub returns-in-Accepted : goal.returns-in-Accepted
-returns-in-Accepted c =
+pub returns-in-Ok : goal.returns-in-Ok
+returns-in-Ok c =
     planned-on (as_planner c.args.rule) c.args.sheet.now c.args.out.now _
     c.read.result
     c.read.ensures
-    c.in-Accepted.is c.plan_instance.ensures
+    c.in-Ok.is c.plan_instance.ensures

@@ -1,14 +1,50 @@
 -- `schedule::lines::next_line` meets its contract: the line by the form that it has.
-use native.Mathlib.Omega.{arith}
-use Rattle.schedule.proofs.LineLaws.{run-cut, move-cut, claim-cut}
+use mathlib.Core.Path.{◌∙◌}
+use Rattle.std.proofs.lemmas.Result.{err_from_is_err_and}
+use Rattle.rules.specs.ScheduleText.{run_form, move_form, claim_form}
+use Rattle.model.specs.Jobs.{instance_in}
+use Rattle.schedule.proofs.LineLaws.{cut-right, cut-wrong, run-says, move-says, claim-says, no-form}
 use Rattle.schedule.proofs.lines.next_line.Goals as goal
 
-pub returns-then-moved-gt0 : goal.returns-then-moved-gt0
-returns-then-moved-gt0 c = move-cut c.line_by-moved.ensures c.if-moved-gt0.true
+pub returns-in_err-value : goal.returns-in_err-value
+returns-in_err-value c =
+    let I = instance_in c.args.job.now in
+    let r = c.in-Some.ensures in
+    let p = err_from_is_err_and c.from_residual.result c.from_residual.ensures.1 in
+    rw (p.1, p.2) (cut-wrong I move_form _ r _ (c.in_err-value.ensures ∙ move-says I _ r))
 
-pub returns-then-run-gt0 : goal.returns-then-run-gt0
-returns-then-run-gt0 c = run-cut c.line_by-run.ensures c.if-run-gt0.true
+pub returns-in-Some : goal.returns-in-Some
+returns-in-Some c =
+    let I = instance_in c.args.job.now in
+    let r = c.in-Some.ensures in
+    cut-right I move_form _ r _ (c.in_ok-value.ensures ∙ move-says I _ r)
+
+pub returns-in_err-value-2 : goal.returns-in_err-value-2
+returns-in_err-value-2 c =
+    let I = instance_in c.args.job.now in
+    let r = c.in-Some-line_by.ensures in
+    let p = err_from_is_err_and c.from_residual-in_err-value-2.result c.from_residual-in_err-value-2.ensures.1 in
+    rw (p.1, p.2) (cut-wrong I run_form _ r _ (c.in_err-value-2.ensures ∙ run-says I _ r))
+
+pub returns-in-Some-line_by : goal.returns-in-Some-line_by
+returns-in-Some-line_by c =
+    let I = instance_in c.args.job.now in
+    let r = c.in-Some-line_by.ensures in
+    cut-right I run_form _ r _ (c.in_ok-value-2.ensures ∙ run-says I _ r)
+
+pub returns-in_default-line_by-2 : goal.returns-in_default-line_by-2
+returns-in_default-line_by-2 c =
+    no-form (instance_in c.args.job.now) _ c.in_default-line_by.ensures c.in_default.ensures c.in_default-line_by-2.ensures
+
+pub returns-in_err-value-3 : goal.returns-in_err-value-3
+returns-in_err-value-3 c =
+    let I = instance_in c.args.job.now in
+    let r = c.in-Some-line_by-2.ensures in
+    let p = err_from_is_err_and c.from_residual-in_err-value-3.result c.from_residual-in_err-value-3.ensures.1 in
+    rw (p.1, p.2) (cut-wrong I claim_form _ r _ (c.in_err-value-3.ensures ∙ claim-says I _ r))
 
 pub returns : goal.returns
 returns c =
-    claim-cut (c.line_by-run.ensures.missed (omega arith)) (c.line_by-moved.ensures.missed (omega arith)) c.line_by.ensures
+    let I = instance_in c.args.job.now in
+    let r = c.in-Some-line_by-2.ensures in
+    cut-right I claim_form _ r _ (c.in_ok-value-3.ensures ∙ claim-says I _ r)

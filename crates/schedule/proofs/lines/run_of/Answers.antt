@@ -1,13 +1,11 @@
--- `schedule::lines::run_of` meets its contract: the three numbers are in their ranges, or one is not.
-use Rattle.schedule.proofs.LineLaws.{in-ranges, out-of-ranges, processor-count}
+-- `schedule::lines::run_of` meets its contract: the processors are those of the board.
+use Rattle.std.proofs.Common.{rules}
+use Rattle.model.specs.Layout.{job_of}
+use Rattle.schedule.proofs.LineLaws.{processor-count}
 use Rattle.schedule.proofs.lines.run_of.Goals as goal
 
-pub returns-then-all_three : goal.returns-then-all_three
-returns-then-all_three c =
-    λ J. rw (processor-count c.args.shape J)
-    (in-ranges _ c.all_three.ensures c.between.ensures c.between-2.ensures c.between-3.ensures c.if-all_three.true)
+pub returns-then-between-3 : goal.returns-then-between-3
+returns-then-between-3 c = let n = processor-count c.args.job.now.shape (job_of c.args.job.now.numbers.now) in rw n (search rules)
 
-pub returns : goal.returns
-returns c =
-    λ J. rw (processor-count c.args.shape J)
-    (out-of-ranges _ c.all_three.ensures c.between.ensures c.between-2.ensures c.between-3.ensures c.if-all_three.false)
+pub returns-else-between : goal.returns-else-between
+returns-else-between c = let n = processor-count c.args.job.now.shape (job_of c.args.job.now.numbers.now) in rw n (search rules)

@@ -1,16 +1,40 @@
 -- `schedule::reader::read_claim` meets its contract: the claim, and no line behind it.
-use Rattle.schedule.proofs.ReadLoops.{claim-other, claim-more, claim-last}
+use mathlib.Core.Path.{◌≡◌, sym, ◌∙◌}
+use native.Mathlib.Omega.{arith}
+use borrow.Author.Tests.{eqb-true, eqb-false}
+use Rattle.std.proofs.Common.{rules, of_calls, length}
+use Rattle.std.proofs.lemmas.Result.{err_from_is_err_and}
+use Rattle.rules.specs.ScheduleText.{schedule_line, claim_of}
+use Rattle.rules.specs.declared.refusal.Refusal.TheVariants.{Timetable}
+use Rattle.text.proofs.DueLaws.{mapped-err, mapped-ok, took-ok, took-err}
+use Rattle.model.specs.Claims.{as_claim}
+use Rattle.model.specs.Jobs.{instance_in}
+use Rattle.schedule.proofs.DueLaws.{claim-refused}
+use Rattle.schedule.proofs.ReadLoops.{claim-last, claim-more, extra-fault}
 use Rattle.schedule.proofs.reader.read_claim.Goals as goal
 
-pub returns-in_default : goal.returns-in_default
-returns-in_default c =
-    λ J P. claim-other c.line_at-cut.result.said (c.line_at-cut.ensures.line_at J) P _ c.in_default.not-Claim _ c.fault_of.ensures
+pub returns-in_err-due : goal.returns-in_err-due
+returns-in_err-due c =
+    λ P.
+    let I = instance_in c.args.job.now in
+    let p = err_from_is_err_and c.from_residual.result c.from_residual.ensures.1 in
+    let (w, e, k) = mapped-err _ c.due_claim.result c.map_err.ensures.cases _ c.in_err-due.was in
+    let q : c.in_err-due.field-0.0 ≡ Timetable w c.args.line = search (rules, of_calls) in
+    rw (p.1, p.2, q) (claim-refused I P _ _ _ (took-err (schedule_line I) claim_of as_claim c.args.paper.now c.due_claim.ensures e))
 
-pub returns-then-next-paper : goal.returns-then-next-paper
-returns-then-next-paper c =
-    λ J P. claim-more c.line_at-cut.result.said (c.line_at-cut.ensures.line_at J) P _ _ c.in-Claim.is c.line_at-more.result.said c.if-next-paper.true
-    (c.line_at-more.ensures.line_at J) _ c.fault_of-then-next-paper.ensures
+pub returns-then-is_empty : goal.returns-then-is_empty
+returns-then-is_empty c =
+    λ P.
+    let I = instance_in c.args.job.now in
+    let e = mapped-ok _ c.due_claim.result c.map_err.ensures.cases _ c.in_ok-due.was in
+    claim-last I P _ (took-ok (schedule_line I) claim_of as_claim c.args.paper.now c.due_claim.ensures e)
+    (omega (arith, eqb-true _ _ (sym c.is_empty.ensures ∙ c.if-is_empty.true)))
 
 pub returns : goal.returns
 returns c =
-    λ J P. claim-last c.line_at-cut.result.said (c.line_at-cut.ensures.line_at J) P _ _ c.in-Claim.is c.if-next-paper.false
+    λ P.
+    let I = instance_in c.args.job.now in
+    let e = mapped-ok _ c.due_claim.result c.map_err.ensures.cases _ c.in_ok-due.was in
+    let some : length c.in_ok-due.due.rest.now ≡ 0 → ⊥ = eqb-false _ _ (sym c.is_empty.ensures ∙ c.if-is_empty.false) in
+    claim-more I P _ (took-ok (schedule_line I) claim_of as_claim c.args.paper.now c.due_claim.ensures e) (omega arith) _
+    (extra-fault I _ _ c.next_line.ensures ∙ rw (c.unwrap_or-fault.ensures, c.err.ensures.value))

@@ -1,51 +1,44 @@
+use Prim.Native.Nat.{ℕ, ◌+◌}
 use mathlib.Core.Path.{◌≡◌}
-use mathlib.Core.Bool.{true, false}
 use native.Mathlib.Omega.{arith}
-use borrow.Author.Rules.{rules}
-use Rattle.schedule.proofs.CrossingLaws.{moved-so-far}
+use Rattle.std.proofs.Common.{rules, of_calls}
+use Rattle.std.proofs.lemmas.Result.{err_from_is_err_and}
+use Rattle.rules.specs.ScheduleText.{schedule_line, move_of}
+use Rattle.rules.specs.declared.refusal.Refusal.TheVariants.{Timetable}
+use Rattle.text.proofs.DueLaws.{mapped-err, mapped-ok, took-ok, took-err}
+use Rattle.model.specs.Jobs.{instance_in}
 use Rattle.schedule.proofs.ReadLoops.{moves-start, moves-refused, moves_next, moves-skip, moves-end}
+use Rattle.schedule.proofs.CrossingLaws.{moved-so-far}
 use Rattle.schedule.proofs.reader.read_moves.Goals as goal
+use Rattle.schedule.proofs.reader.read_moves.Goals.{then-moves+in_ok-due, else-moves}
 
-pub loop-i-init : goal.loop-i-init
-loop-i-init c = moves-start _ _ _ _ _ _ c.requires.from_in_bounds.0
+pub loop-k-init : goal.loop-k-init
+loop-k-init c = moves-start _ _ _ _ _
 
-pub move_at-requires : goal.move_at-requires
-move_at-requires c = record {
-  processors = c.requires.job_in_bounds.processors;
-  at_in_bounds = c.loop-i.invariant.within;
-  maker_lt_max_tasks = search rules;
-}
+pub returns-in_err-due-clause-goes_on : goal.returns-in_err-due-clause-goes_on
+returns-in_err-due-clause-goes_on c =
+    let p = err_from_is_err_and c.from_residual.result c.from_residual.ensures.1 in
+    let (w, e, k) = mapped-err _ c.due_move.result c.map_err.ensures.cases _ c.in_err-due.was in
+    let q : c.in_err-due.field-0.0 ≡ Timetable w c.loop-k.next = search (rules, of_calls) in
+    rw (p.1, p.2, q)
+    (moves-refused c.loop-k.invariant c.loop-k-test.true (moved-so-far c.loop-k.invariant c.moves.ensures c.if-moves.true) c.maker.ensures.value c.reader.ensures.value _
+    (took-err (schedule_line (instance_in c.args.job.now)) (move_of (c.maker.result + 1) (c.reader.result + 1)) (λ (t : ℕ). t) c.loop-k.rest.now c.due_move.ensures e))
 
-pub returns-in-Refused : goal.returns-in-Refused
-returns-in-Refused c =
-    let h = c.loop-i-test.true in
-    let m : c.moves.result ≡ true = search rules in
-    let e = moved-so-far c.loop-i.invariant c.moves.ensures m in record {
-      result_after = moves-refused c.loop-i.invariant h e c.maker-maker.ensures.value c.reader-reader.ensures.value _ (c.move_at.ensures _) _ c.in-Refused.is;
-      in_text = tt;
-    }
+pub loop-k-preserved : goal.loop-k-preserved
+loop-k-preserved c =
+    elim c.if-moves.branch [
+      | then-moves+in_ok-due w ↦
+          let e = mapped-ok _ w.due_move.result w.map_err.ensures.cases _ w.in_ok-due.was in
+          rw (w.schedule-is, w.rest-is, w.next-is)
+          (moves_next c.loop-k.invariant c.loop-k-test.true (moved-so-far c.loop-k.invariant c.moves.ensures w.if-moves.true) w.maker.ensures.value w.reader.ensures.value
+          c.args.job.now.in_bounds w.set_move_start.ensures.schedule_len.0 _
+          (took-ok (schedule_line (instance_in c.args.job.now)) (move_of (w.maker.result + 1) (w.reader.result + 1)) (λ (t : ℕ). t) c.loop-k.rest.now w.due_move.ensures e)
+          _ w.set_move_start.ensures.schedule_after)
+      | else-moves w ↦
+          rw (w.schedule-is, w.rest-is, w.next-is)
+          (moves-skip c.loop-k.invariant c.loop-k-test.true (moved-so-far c.loop-k.invariant c.moves.ensures w.if-moves.false) c.args.job.now.in_bounds
+          w.set_move_start-else-moves.ensures.schedule_len.0 _ w.set_move_start-else-moves.ensures.schedule_after)
+    ]
 
-pub overflow_add-k : goal.overflow_add-k
-overflow_add-k c =
-    omega (arith, c.loop-i.invariant.few, c.loop-i.invariant.passed, c.requires.job_in_bounds.files, c.requires.from_in_bounds.1)
-
-pub loop-i-preserved-in-Start : goal.loop-i-preserved-in-Start
-loop-i-preserved-in-Start c =
-    let h = c.loop-i-test.true in
-    let m : c.moves.result ≡ true = search rules in
-    let e = moved-so-far c.loop-i.invariant c.moves.ensures m in
-    moves_next c.loop-i.invariant h e c.maker-maker.ensures.value c.reader-reader.ensures.value _ (c.move_at.ensures _) _ _ c.in-Start.is
-    c.requires.job_in_bounds c.set_move_start.ensures.schedule_len.0 _ c.set_move_start.ensures.schedule_after
-
-pub loop-i-preserved : goal.loop-i-preserved
-loop-i-preserved c =
-    let h = c.loop-i-test.true in
-    let m : c.moves.result ≡ false = search rules in
-    let e = moved-so-far c.loop-i.invariant c.moves.ensures m in
-    moves-skip c.loop-i.invariant h e c.requires.job_in_bounds c.set_move_start-else-moves.ensures.schedule_len.0 _ c.set_move_start-else-moves.ensures.schedule_after
-
-pub returns : goal.returns
-returns c = record {
-  result_after = moves-end c.loop-i.invariant c.loop-i-test.false;
-  in_text = (c.loop-i.invariant.within, omega (arith, c.loop-i.invariant.few, c.loop-i.invariant.passed, c.requires.job_in_bounds.files, c.requires.from_in_bounds.1));
-}
+pub returns-clause-goes_on : goal.returns-clause-goes_on
+returns-clause-goes_on c = moves-end c.loop-k.invariant (omega arith) (omega arith)

@@ -7,5 +7,5 @@ pub overflow_add-processors : goal.overflow_add-processors
 overflow_add-processors c =
     let sheet = c.args.sheet.now in
     let xs = c.read.new.job in
-    let p = (accepted-bounds sheet _ xs (read-accepted sheet c.read.result xs c.read.ensures _ c.in-Accepted.is)).processors in
+    let p = (accepted-bounds sheet _ xs (read-accepted sheet c.read.result xs c.read.ensures _ c.in-Ok.is)).processors in
     omega (arith, p.blue, p.red)

@@ -1,63 +1,42 @@
 use mathlib.Core.Path.{sym, ◌∙◌}
-use native.Mathlib.Omega.{arith}
-use lib.Seq.{length-take-le}
-use Rattle.text.proofs.LineByLaws.{scanning-start, scanning-no-number, number-within, scanning-number, scanning-no-sign}
+use Rattle.text.proofs.LineByLaws.{scanning-start, scanning-no-number, scanning-number, scanning-fifth, scanning-no-sign}
 use Rattle.text.proofs.LineByLaws.{scanning-sign, scanning-long, scanning-end}
 use Rattle.text.proofs.forms.line_behind.Goals as goal
+use Rattle.text.proofs.forms.line_behind.Goals.{then-sign-eq35+in_ok-read, then-count-lt4, else-count-lt4, else-sign-eq35+else-not-stands}
 
-pub loop-i-init : goal.loop-i-init
-loop-i-init c = let p = c.requires in scanning-start _ _ _ _ p.form_lineless p.start_passed.0 p.start_passed.1
+pub loop-sign-init : goal.loop-sign-init
+loop-sign-init c = scanning-start _ _ _ c.requires.form_lineless c.requires.start_passed
 
-pub slice_bounds-number-count : goal.slice_bounds-number-count
-slice_bounds-number-count c = omega (arith, c.loop-i.invariant.passed.within)
-
-pub slice_bounds-number-start : goal.slice_bounds-number-start
-slice_bounds-number-start c = omega (arith, c.loop-i.invariant.passed.within)
-
-pub returns-then-read-eq0 : goal.returns-then-read-eq0
-returns-then-read-eq0 c =
-    scanning-no-number c.loop-i.invariant c.loop-i-test.true c.if-form-i-eq35.true _ _ c.number-read.ensures
-    c.if-read-eq0.true
-
-pub overflow_add-at : goal.overflow_add-at
-overflow_add-at c =
-    omega (
-      arith,
-      number-within c.loop-i.invariant c.loop-i-test.true c.if-form-i-eq35.true _ _ c.number-read.ensures
-          c.if-read-eq0.false,
-      c.well_formed,
-    )
-
-pub overflow_add-count : goal.overflow_add-count
-overflow_add-count c = omega (arith, c.loop-i.invariant.behind)
-
-pub loop-i-preserved-then-form-i-eq35 : goal.loop-i-preserved-then-form-i-eq35
-loop-i-preserved-then-form-i-eq35 c =
-    scanning-number c.loop-i.invariant c.loop-i-test.true c.if-form-i-eq35.true _ _ c.number-read.ensures c.if-read-eq0.false _ c.put.ensures
+pub returns-in_err-read : goal.returns-in_err-read
+returns-in_err-read c =
+    rw c.from_residual.ensures (scanning-no-number c.loop-sign.invariant c.loop-sign-test.true c.if-sign-eq35.true c.in_err-read.ensures)
 
 pub returns-then-not-stands : goal.returns-then-not-stands
 returns-then-not-stands c =
-    scanning-no-sign c.loop-i.invariant c.loop-i-test.true c.if-form-i-eq35.false
+    scanning-no-sign c.loop-sign.invariant c.loop-sign-test.true c.if-sign-eq35.false
     (sym c.stands.ensures ∙ c.if-not-stands.true)
 
-pub overflow_add-at-else-form-i-eq35 : goal.overflow_add-at-else-form-i-eq35
-overflow_add-at-else-form-i-eq35 c =
-    let r = scanning-sign c.loop-i.invariant c.loop-i-test.true c.if-form-i-eq35.false
-    (sym c.stands.ensures ∙ c.if-not-stands.false) in
-    omega (arith, r.passed.within)
-
-pub loop-i-preserved : goal.loop-i-preserved
-loop-i-preserved c =
-    scanning-sign c.loop-i.invariant c.loop-i-test.true c.if-form-i-eq35.false
-    (sym c.stands.ensures ∙ c.if-not-stands.false)
+pub loop-sign-preserved : goal.loop-sign-preserved
+loop-sign-preserved c =
+    elim c.if-sign-eq35.branch [
+      | then-sign-eq35+in_ok-read w ↦
+          elim w.if-count-lt4.branch [
+            | then-count-lt4 v ↦
+                rw (w.numbers-is, v.numbers-is, w.at-is, w.count-is)
+                (scanning-number c.loop-sign.invariant c.loop-sign-test.true w.if-sign-eq35.true w.in_ok-read.ensures)
+            | else-count-lt4 v ↦
+                rw (w.numbers-is, v.numbers-is, w.at-is, w.count-is)
+                (scanning-fifth c.loop-sign.invariant c.loop-sign-test.true w.if-sign-eq35.true w.in_ok-read.ensures v.if-count-lt4.false)
+          ]
+      | else-sign-eq35+else-not-stands w ↦
+          rw (w.numbers-is, w.at-is, w.count-is)
+          (scanning-sign c.loop-sign.invariant c.loop-sign-test.true w.if-sign-eq35.false (sym w.stands.ensures ∙ w.if-not-stands.false))
+    ]
 
 pub returns-then-not-stands-2 : goal.returns-then-not-stands-2
 returns-then-not-stands-2 c =
-    scanning-long c.loop-i.invariant c.loop-i-test.false (sym c.stands-2.ensures ∙ c.if-not-stands-2.true)
-
-pub slice_bounds-result-end-2 : goal.slice_bounds-result-end-2
-slice_bounds-result-end-2 c = sym (length-take-le _ _ c.loop-i.invariant.passed.within)
+    scanning-long c.loop-sign.invariant c.loop-sign-test.false (sym c.stands-2.ensures ∙ c.if-not-stands-2.true)
 
 pub returns : goal.returns
 returns c =
-    scanning-end c.loop-i.invariant c.loop-i-test.false (sym c.stands-2.ensures ∙ c.if-not-stands-2.false)
+    scanning-end c.loop-sign.invariant c.loop-sign-test.false (sym c.stands-2.ensures ∙ c.if-not-stands-2.false)

@@ -1,18 +1,17 @@
 -- `text::forms::line_by` meets its contract: the word, and what follows it.
 use mathlib.Core.Path.{sym, ◌∙◌}
-use Rattle.text.proofs.LineByLaws.{word-no-cut, behind-word, word_cut}
+use Rattle.text.proofs.LineByLaws.{begins-same, word-no-line, behind-word, word-line}
 use Rattle.text.proofs.forms.line_by.Goals as goal
 
-pub returns-then-not-starts_by : goal.returns-then-not-starts_by
-returns-then-not-starts_by c =
-    word-no-cut c.requires c.args.text.now _ (sym c.starts_by.ensures ∙ c.if-not-starts_by.true) _
+pub returns-then-not-starts_with : goal.returns-then-not-starts_with
+returns-then-not-starts_with c =
+    word-no-line c.requires c.args.text.now (sym (begins-same c.args.word.now c.args.text.now) ∙ sym c.starts_with.ensures.value ∙ c.if-not-starts_with.true)
 
-pub line_behind-requires : goal.line_behind-requires
-line_behind-requires c = record {
-  start_passed = (c.requires.some, behind-word c.requires c.args.text.now 0 (sym c.starts_by.ensures ∙ c.if-not-starts_by.false));
-  form_lineless = c.requires.lineless;
-}
+pub line_behind-requires-clause-start_passed : goal.line_behind-requires-clause-start_passed
+line_behind-requires-clause-start_passed c =
+    behind-word c.requires c.args.text.now (sym (begins-same c.args.word.now c.args.text.now) ∙ sym c.starts_with.ensures.value ∙ c.if-not-starts_with.false)
 
 pub returns : goal.returns
 returns c =
-    word_cut c.requires c.args.text.now _ (sym c.starts_by.ensures ∙ c.if-not-starts_by.false) c.line_behind.ensures
+    rw (word-line c.requires c.args.text.now (sym (begins-same c.args.word.now c.args.text.now) ∙ sym c.starts_with.ensures.value ∙ c.if-not-starts_with.false))
+    c.line_behind.ensures

@@ -1,9 +1,7 @@
--- `line_from` meets its contract. The invariant: the line looked for is line `left` of what is left.
+-- `line_from` meets its contract. The invariant: the line looked for is line n - k of what is left.
+use Prim.Native.Nat.{◌-◌}
 use Rattle.text.proofs.LineAtLaws.{Skipping}
 use Rattle.text.proofs.lines.line_from.Given as goal
 
-abbrev pub invariant-loop-left : goal.invariant-loop-left
-invariant-loop-left l = Skipping l.text l.n l.rest l.left
-
-abbrev pub decreases-loop-left : goal.decreases-loop-left
-decreases-loop-left l = l.left
+abbrev pub invariant-loop-k : goal.invariant-loop-k
+invariant-loop-k l = Skipping l.text l.n l.rest (l.n - l._k)

@@ -4,6 +4,3 @@ use Rattle.text.proofs.numerals.write_number.Given as goal
 
 abbrev pub invariant-loop-k : goal.invariant-loop-k
 invariant-loop-k l = Pending l.value l.initial.out l.out l.k l.v
-
-abbrev pub decreases-loop-k : goal.decreases-loop-k
-decreases-loop-k l = l.k

@@ -5,4 +5,4 @@ use Rattle.work_examples.proofs.sheet.show.Goals as goal
 pub print_sheet-requires : goal.print_sheet-requires
 print_sheet-requires g c =
     let sheet = c.args.sheet.now in
-    accepted-bounds sheet _ c.read.new.job (read-accepted sheet c.read.result c.read.new.job c.read.ensures _ c.in-Accepted.is)
+    accepted-bounds sheet _ c.read.new.job (read-accepted sheet c.read.result c.read.new.job c.read.ensures _ c.in-Ok.is)

@@ -1,9 +1,0 @@
--- `text::numerals::is_digit` meets its contract: each return by the tests that led there.
-use borrow.Author.Tests.{le-leb, lt-leb}
-use Rattle.text.proofs.numerals.is_digit.Goals as goal
-
-pub returns-then-b-lt48 : goal.returns-then-b-lt48
-returns-then-b-lt48 c = simp (lt-leb _ _ c.if-b-lt48.true)
-
-pub returns : goal.returns
-returns c = simp (le-leb _ _ c.if-b-lt48.false)
