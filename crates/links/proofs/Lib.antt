@@ -4,3 +4,5 @@
 pub mod ChainLaws
 -- one turn of the loop that makes the chains
 pub mod LinkLaws
+-- where a walk along a chain has come to
+pub mod WalkLaws

@@ -1,60 +1,70 @@
 -- The chains of the files from the last one down: none, one file more, all.
 use Prim.Native.Nat.{ℕ, suc, ◌≤◌, ◌<◌}
 use mathlib.Core.Bool.{Bool, true, false}
-use mathlib.Core.List.{List}
 use mathlib.Core.Path.{◌≡◌, sym, ◌∙◌}
 use native.Mathlib.Omega.{arith}
 use native.Mathlib.Decide.{ℕ_discrete}
 use lib.Dec.{eqb}
-use lib.ListN.{get_or, set, length, replicate, get_or-replicate}
+use lib.ListN.{set, length, replicate, get_or-replicate}
 use lib.Seq.{get_or-set_same, get_or-set_other}
 use borrow.Author.Tests.{eqb-true, eq-eqb, ne_eqb}
 use Rattle.rules.specs.Limits.{max_tasks, max_files}
 use Rattle.rules.specs.Model.{Instance, task_count, file_count}
 use Rattle.model.specs.declared.layout.Shape.{Shape}
 use Rattle.model.specs.Layout.{Job, instance_from}
-use Rattle.model.proofs.LayoutLaws.{task-count, file-count, makes-at, reads_at}
-use Rattle.links.specs.declared.End.{End}
-use Rattle.links.specs.declared.End.TheVariants.{Maker, Reader}
-use Rattle.links.specs.Chains.{NextOf, has_at, Chained}
+use Rattle.model.proofs.LayoutLaws.{task-count, file-count}
+use Rattle.std.specs.Prelude.{Option, None, Some}
+use Rattle.std.proofs.lemmas.Option.{none-some, same_Some}
+use Rattle.links.specs.declared.chains.Chains.{Chains}
+use Rattle.links.specs.Chains.{Next, first_of, next_of, Chained}
 
--- the arrays chain the files from k on
-pub record ChainedFrom (I : Instance) (has : ℕ → ℕ → Bool) (first next : List ℕ) (k : ℕ) : Type 0 where
-  pub begins : (i : ℕ) → i < task_count I → NextOf (file_count I) (has i) k (get_or first i 0)
-  pub goes_on : (i j : ℕ) → k ≤ j → j < file_count I → has i j ≡ true → NextOf (file_count I) (has i) (suc j) (get_or next j 0)
+-- the files from k on are chained
+pub record ChainedFrom (I : Instance) (has : ℕ → ℕ → Bool) (c : Chains) (k : ℕ) : Type 0 where
+  pub begins : (i : ℕ) → i < task_count I → Next (file_count I) (has i) k (first_of c i)
+  pub goes_on : (i j : ℕ) → k ≤ j → j < file_count I → has i j ≡ true → Next (file_count I) (has i) (suc j) (next_of c j)
 
 -- ---- the next index
 
 module _ {n : ℕ} {p : ℕ → Bool} {k : ℕ} where
   -- there is none
-  next-none : {r : ℕ} → k ≡ n → r ≡ n → NextOf n p k r
-  next-none d e = record {
-    from = omega arith;
-    within = omega arith;
-    passed = λ j a b. absurd (omega arith);
-    holds = λ l. absurd (omega arith);
-  }
+  next-none : {r : Option ℕ} → k ≡ n → r ≡ None → Next n p k r
+  next-none d e = rw e (record {
+    exists = λ j q. absurd (none-some j q);
+    next = record {
+      from = omega arith;
+      within = omega arith;
+      passed = λ j a b. absurd (omega arith);
+      holds = λ l. absurd (omega arith);
+    };
+  })
 
   -- it is k itself
-  next_here : {r : ℕ} → k < n → p k ≡ true → r ≡ k → NextOf n p k r
-  next_here l h e = record {
-    from = omega arith;
-    within = omega arith;
-    passed = λ j a b. absurd (omega arith);
-    holds = λ _. rw e h;
-  }
+  next_here : {r : Option ℕ} → k < n → p k ≡ true → r ≡ Some k → Next n p k r
+  next_here l h e = rw e (record {
+    exists = λ j q. let z : k ≡ j = same_Some k j q in omega arith;
+    next = record {
+      from = omega arith;
+      within = omega arith;
+      passed = λ j a b. absurd (omega arith);
+      holds = λ _. h;
+    };
+  })
 
   -- it is not k
-  next-later : {r : ℕ} → p k ≡ false → NextOf n p (suc k) r → NextOf n p k r
-  next-later {r} h f = record {
-    from = omega (arith, f.from);
-    within = f.within;
-    passed = λ j a b. elim (ℕ_discrete j k) [
-      | yes e ↦ rw e h
-      | no d ↦ f.passed j (omega arith) b
-    ];
-    holds = f.holds;
-  }
+  next-later : {r : Option ℕ} → p k ≡ false → Next n p (suc k) r → Next n p k r
+  next-later {r} h g =
+      let f = g.next in record {
+        exists = g.exists;
+        next = record {
+          from = omega (arith, f.from);
+          within = f.within;
+          passed = λ j a b. elim (ℕ_discrete j k) [
+            | yes e ↦ rw e h
+            | no d ↦ f.passed j (omega arith) b
+          ];
+          holds = f.holds;
+        };
+      }
 
 -- ---- the chains
 
@@ -62,43 +72,41 @@ module _ (b : Shape) (J : Job) where
   abbrev I : Instance
   I = instance_from b J
 
-  -- the task at an end of a file, from what the accessors read
-  pub at-maker : {k : ℕ} → k < b.files → {t : ℕ} → t ≡ J.maker k → {end : End} → end ≡ Maker → (i : ℕ) → eqb t i ≡ has_at end I i k
-  at-maker h e q i = rw q (makes-at b J h i e)
+  -- before any file
+  abbrev pub no_chains : Chains
+  no_chains = record { first = replicate max_tasks None; next = replicate max_files None }
 
-  pub at-reader : {k : ℕ} → k < b.files → {t : ℕ} → t ≡ J.reader k → {end : End} → end ≡ Reader → (i : ℕ) → eqb t i ≡ has_at end I i k
-  at-reader h e q i = rw q (reads_at b J h i e)
+  -- file k before those of its task t behind it
+  abbrev pub with_link : Chains → ℕ → ℕ → Chains
+  with_link c k t = record { first = set c.first t (Some k); next = set c.next k (first_of c t) }
 
   module _ (has : ℕ → ℕ → Bool) where
-    pub chained-none : b.tasks ≤ max_tasks → ChainedFrom I has (replicate max_tasks b.files) (replicate max_files b.files) b.files
+    pub chained-none : b.tasks ≤ max_tasks → ChainedFrom I has no_chains b.files
     chained-none l = record {
-      begins = λ i h. next-none (sym (file-count b J))
-          (get_or-replicate max_tasks i b.files 0 (omega (arith, task-count b J)) ∙ sym (file-count b J));
+      begins = λ i h. next-none (sym (file-count b J)) (get_or-replicate max_tasks i None None (omega (arith, task-count b J)));
       goes_on = λ i j a u _. absurd (omega (arith, file-count b J));
     }
 
-    -- file k goes before those of its task t behind it
-    pub chained-turn : {first next : List ℕ} {k t : ℕ} → k < b.files → t < b.tasks → b.tasks ≤ length first → b.files ≤ length next
-        → ((i : ℕ) → eqb t i ≡ has i k) → {m : ℕ} → m ≡ suc k → ChainedFrom I has first next m
-        → ChainedFrom I has (set first t k) (set next k (get_or first t 0)) k
-    chained-turn {first} {next} {k} {t} u l few room at e g =
-        let f : ChainedFrom I has first next (suc k) = rw e at g in
+    pub chained-turn : {c : Chains} {k t : ℕ} → k < b.files → t < b.tasks → b.tasks ≤ length c.first → b.files ≤ length c.next
+        → ((i : ℕ) → eqb t i ≡ has i k) → {m : ℕ} → m ≡ suc k → ChainedFrom I has c m → ChainedFrom I has (with_link c k t) k
+    chained-turn {c} {k} {t} u l few room at e g =
+        let f : ChainedFrom I has c (suc k) = rw e at g in
         let in-files : k < file_count I = omega (arith, file-count b J) in
         let in-tasks : t < task_count I = omega (arith, task-count b J) in
         record {
           begins = λ i h. elim (ℕ_discrete i t) [
-            | yes e ↦ next_here in-files (sym (at i) ∙ eq-eqb t i (sym e)) (rw e (get_or-set_same first t k 0 (omega arith)))
-            | no d ↦ rw (get_or-set_other first t i k 0 d) (next-later (sym (at i) ∙ ne_eqb t i (λ e. d (sym e))) (f.begins i h))
+            | yes e ↦ next_here in-files (sym (at i) ∙ eq-eqb t i (sym e)) (rw e (get_or-set_same c.first t (Some k) None (omega arith)))
+            | no d ↦ rw (get_or-set_other c.first t i (Some k) None d) (next-later (sym (at i) ∙ ne_eqb t i (λ e. d (sym e))) (f.begins i h))
           ];
           goes_on = λ i j a h y. elim (ℕ_discrete j k) [
             | yes e ↦
                 let mine : t ≡ i = eqb-true t i (at i ∙ rw e at y) in
-                rw (e, get_or-set_same next k (get_or first t 0) 0 (omega arith), ← mine) (f.begins t in-tasks)
-            | no d ↦ rw (get_or-set_other next k j (get_or first t 0) 0 d) (f.goes_on i j (omega arith) h y)
+                rw (e, get_or-set_same c.next k (first_of c t) None (omega arith), ← mine) (f.begins t in-tasks)
+            | no d ↦ rw (get_or-set_other c.next k j (first_of c t) None d) (f.goes_on i j (omega arith) h y)
           ];
         }
 
-    pub chained-all : {first next : List ℕ} {k : ℕ} → k ≡ 0 → ChainedFrom I has first next k → Chained I has first next
+    pub chained-all : {c : Chains} {k : ℕ} → k ≡ 0 → ChainedFrom I has c k → Chained I has c
     chained-all {k} e f =
         let g = rw e at f in record {
           begins = g.begins;

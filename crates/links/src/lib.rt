@@ -1,56 +1,64 @@
-// The files of each task, as chains made once for an instance: those that it makes, or those that it reads.
+// The files of each task, as chains made once for a job: those that it makes, and those that it reads.
 #![tactic(auto)]
 
-ghost use Rattle.std.specs.Prelude.{◌≡◌, ℕ, ◌<◌, eqb, length};
-ghost use Rattle.rules.specs.Limits.{max_tasks, max_files};
-ghost use Rattle.model.specs.Layout.{instance_of, JobInBounds};
-ghost use Rattle.links.specs.Chains.{has_at, Chained};
+ghost use Rattle.rules.specs.Scheduling.{reads, makes};
+ghost use Rattle.model.specs.Jobs.{instance_in};
+ghost use Rattle.links.specs.Chains.{Chained};
 
-use model::layout;
-use model::layout::Shape;
-use rules::Board;
+use chains::{Chains, chain};
+use model::job::Job;
 
-// An end of a file: the task that makes it, or the one that reads it.
-#[derive(Clone, Copy)]
-pub enum End {
-    Maker,
-    Reader,
+pub mod chains;
+
+pub use chains::End;
+
+// A job, and the chains of its files by their makers and by their readers.
+#[derive(Drop)]
+pub struct Links<'a> {
+    pub job: Job<'a>,
+    made: Chains,
+    read: Chains,
+    ghost made_chained: { Chained (instance_in job) (makes (instance_in job)) made },
+    ghost read_chained: { Chained (instance_in job) (reads (instance_in job)) read },
 }
 
-// The task at that end of file k.
-fn task_at(shape: Shape, job: &layout::Numbers, end: End, k: usize) -> u64
-    requires job_in_bounds { JobInBounds shape job.now }
-    requires k_lt_files { k < shape.files }
-    ensures by_index { (i : ℕ) → eqb result i ≡ has_at end (instance_of shape job.now) i k }
-    ensures upper_bound { result < shape.tasks }
-{
-    match end {
-        End::Maker => layout::maker(shape, job, k),
-        End::Reader => layout::reader(shape, job, k),
+impl Links<'_> {
+    ghost use Rattle.std.specs.Prelude.{◌≡◌, ℕ, ◌<◌, suc, true};
+    ghost use Rattle.rules.specs.Model.{file_count};
+    ghost use Rattle.model.specs.Jobs.{instance_in};
+    ghost use Rattle.links.specs.Chains.{Next, has_at};
+
+    // The chains of a job.
+    pub fn new(job: Job<'_>) -> Links<'_>
+        ensures { result.job ≡ job.entry }
+    {
+        Links {
+            job,
+            made: chain(&job, End::Maker),
+            read: chain(&job, End::Reader),
+        }
     }
-}
 
-// Chains the files by their task at that end, from the last file down: each goes before those of its task that are behind it.
-pub fn link(
-    shape: Shape,
-    job: &layout::Numbers,
-    end: End,
-    first: &mut [u64; Board::MAX_TASKS],
-    next: &mut [u64; Board::MAX_FILES],
-)
-    requires { JobInBounds shape job.now }
-    ensures chained { Chained (instance_of shape job.now) (has_at end (instance_of shape job.now))
-        first.new next.new }
-    ensures first_len { (length first.new ≡ max_tasks) × (length next.new ≡ max_files) }
-{
-    let none = shape.files as u64;
-    *first = [none; Board::MAX_TASKS];
-    *next = [none; Board::MAX_FILES];
-    let mut k = shape.files;
-    while 0 < k {
-        k -= 1;
-        let i = task_at(shape, job, end, k) as usize;
-        next[k] = first[i];
-        first[i] = k as u64;
+    // The first of the files that have the task at that end.
+    pub fn first(&self, end: End, task: usize) -> Option<usize>
+        requires { task < self.now.job.shape.tasks }
+        ensures { Next (file_count (instance_in self.now.job)) (has_at end (instance_in self.now.job) task) 0 result }
+    {
+        match end {
+            End::Maker => self.made.first(task),
+            End::Reader => self.read.first(task),
+        }
+    }
+
+    // The next of them behind file k.
+    pub fn next(&self, end: End, k: usize) -> Option<usize>
+        requires { k < self.now.job.shape.files }
+        ensures { (i : ℕ) → has_at end (instance_in self.now.job) i k ≡ true →
+            Next (file_count (instance_in self.now.job)) (has_at end (instance_in self.now.job) i) (suc k) result }
+    {
+        match end {
+            End::Maker => self.made.next(k),
+            End::Reader => self.read.next(k),
+        }
     }
 }

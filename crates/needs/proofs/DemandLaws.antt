@@ -1,17 +1,16 @@
 -- The demand of a task on a colour: of the files before the first of its chain, with one file added, up to the next of the chain, and of all files.
 use Prim.Native.Nat.{ℕ, suc, ◌+◌, ◌≤◌, ◌<◌, max}
-use mathlib.Core.Bool.{false, cond}
+use mathlib.Core.Bool.{true, false}
 use mathlib.Core.Path.{◌≡◌, refl, sym, ap, ◌∙◌}
 use native.Mathlib.Omega.{arith}
 use native.Mathlib.Numerals.{add-one}
-use lib.Dec.{eqb}
-use Rattle.rules.specs.Model.{Colour, Instance, Schedule, file_count, finish_at, made_at, size_at, move_time_at}
+use Rattle.rules.specs.Model.{Colour, Instance, Schedule, file_at, file_count, finish_at, made_at, size_at, move_time_at}
 use Rattle.rules.specs.Scheduling.{reads, crossing, arrival, crossing_size, crossing_time, input_start}
 use Rattle.model.specs.declared.layout.Shape.{Shape}
 use Rattle.model.specs.declared.crossing.Cost.{Cost}
 use Rattle.model.specs.Costs.{CostOf}
 use Rattle.model.specs.Layout.{Job, Entries, instance_from, schedule_from}
-use Rattle.model.proofs.LayoutLaws.{file-count, file-at, reads_at}
+use Rattle.model.proofs.LayoutLaws.{file-count}
 use Rattle.model.proofs.StepLaws.{sum-turn, max-turn}
 use Rattle.links.specs.Chains.{NextOf}
 use Rattle.links.proofs.ChainLaws.{sum_first, max-first, sum-skip, max-skip}
@@ -39,19 +38,18 @@ module _ (b : Shape) (J : Job) (L : Entries) (i : ℕ) (c : Colour) where
 
   -- file k, from what the accessors read
   module _ {k : ℕ} (h : k < b.files) {d : Demand} (before : DemandBelow I P i c k d)
-      {m j made : ℕ} {x : Cost} (maker : m ≡ J.maker k) (reader : j ≡ J.reader k) (cost : CostOf I P i c k x)
+      {m made : ℕ} {x : Cost} (maker : m ≡ (file_at I k).maker) (read : reads I i k ≡ true) (cost : CostOf I P i c k x)
       (finish : made ≡ finish_at I P m) where
     arrival-at : arrival I P i c k ≡ made + x.move_time
     arrival-at =
-        let g : made ≡ finish_at I P (J.maker k) = finish ∙ ap (λ m. finish_at I P m) maker in
-        let q : made_at I P k ≡ finish_at I P (J.maker k) = rw (file-at b J k h) in
-        omega (arith, cost.move_time)
+        let q : made_at I P k ≡ made = sym (finish ∙ ap (λ m. finish_at I P m) maker) in
+        omega (arith, cost.move_time, q)
 
-    pub demand-next : {z u v : ℕ} → z ≡ cond (eqb j i) (made + x.move_time) 0 → u ≡ max d.arrival z → v ≡ max d.longest x.move_time
+    pub demand-next : {u v : ℕ} → u ≡ max d.arrival (made + x.move_time) → v ≡ max d.longest x.move_time
         → DemandBelow I P i c (k + 1) (record { incoming = d.incoming + x.newly_held; arrival = u; longest = v })
-    demand-next ez eu ev = record {
+    demand-next eu ev = record {
       incoming = omega (arith, before.incoming, sum-turn k (crossing I P i c) (size_at I) cost.newly_held refl refl);
-      arrival = omega (arith, before.arrival, max-turn k (reads I i) (arrival I P i c) ez (reads_at b J h i reader) arrival-at);
+      arrival = omega (arith, before.arrival, max-turn k (reads I i) (arrival I P i c) {b = true} {s = made + x.move_time} {r = made + x.move_time} refl (sym read) arrival-at);
       longest = omega (arith, before.longest, max-turn k (crossing I P i c) (move_time_at I) cost.move_time refl refl);
     }
 

@@ -1,48 +1,36 @@
 -- The table in a planner: its bounds before it is filled, its marks, and what a placing leaves of it.
-use Prim.Native.Nat.{ℕ, ◌+◌, ◌<◌}
-use mathlib.Core.Bool.{Bool, true, false, not, cond, ◌&&◌}
-use mathlib.Core.List.{List}
+use Prim.Native.Nat.{ℕ, ◌<◌}
+use mathlib.Core.Bool.{true, not, cond, ◌&&◌}
 use mathlib.Core.Logic.{◌≢◌}
-use mathlib.Core.Path.{◌≡◌, refl, sym, ap, ◌∙◌}
+use mathlib.Core.Path.{◌≡◌, sym, ap, ◌∙◌}
 use native.Mathlib.Omega.{arith}
-use lib.Dec.{ltb}
-use lib.ListN.{get_or, replicate, length-replicate}
+use lib.ListN.{replicate, get_or-replicate}
 use borrow.Author.Tests.{eq-eqb}
 use Rattle.rules.specs.Model as Rules
 use Rattle.rules.specs.Model.{Instance, Schedule, task_count, file_count, file_at, size_at, move_time_at, same_colour, is_placed, run_at, colour_of, finish_of, maker_run}
 use Rattle.rules.specs.Scheduling.{Partial, reads, ready, crossing, arrival, crossing_size, crossing_time, input_start, assign}
 use Rattle.rules.proofs.Tests.{split, clash, same_test}
-use Rattle.rules.proofs.CountLaws.{sum-cong, max-cong, where-cong, get_or-same}
+use Rattle.rules.proofs.CountLaws.{sum-cong, max-cong, where-cong}
 use Rattle.rules.proofs.ReadyLaws.{ready-unplaced, ready-makers, makers-ready}
 use Rattle.rules.proofs.StartLaws.{assign_other}
 use Rattle.model.specs.Colours.{as_colour}
 use Rattle.needs.specs.declared.demand.Demand.{Demand}
 use Rattle.needs.specs.Demands.{DemandOf}
-use Rattle.needs.specs.Table.{place, room_place, kept_place, demand_column, needs_length, Needs, NeedsBut, NeedsBounds, ReadsNone}
+use Rattle.rules.specs.Limits.{max_tasks}
+use Rattle.needs.specs.declared.table.Needs.{Needs}
+use Rattle.needs.specs.Needs.{no_need, NeedsBounds}
+use Rattle.needs.specs.Tables.{Right, RightBut, ReadsNone}
 
--- a table of zeros is in its bounds
-zero-at : (p : ℕ) → get_or (replicate {A = ℕ} needs_length 0) p 0 ≡ 0
-zero-at p = get_or-same needs_length p 0
-
-pub zeros-bounds : NeedsBounds (replicate needs_length 0)
-zeros-bounds = record {
-  length = length-replicate {A = ℕ} needs_length 0;
-  room = λ i l. omega (arith, zero-at (room_place i));
-  kept = λ i l. omega (arith, zero-at (kept_place i));
-  demand = λ i l c. record {
-    incoming = omega (arith, zero-at (place (demand_column c) i));
-    arrival = omega (arith, zero-at (place (demand_column c + 1) i));
-    longest = omega (arith, zero-at (place (demand_column c + 2) i));
-  };
+-- what is not worked out is in its bounds
+pub none_bounds : NeedsBounds (replicate max_tasks no_need)
+none_bounds = record {
+  each = λ i l. rw (get_or-replicate max_tasks i no_need no_need l) (record {
+    room = omega arith;
+    kept = omega arith;
+    blue = record { incoming = omega arith; arrival = omega arith; longest = omega arith };
+    red = record { incoming = omega arith; arrival = omega arith; longest = omega arith };
+  });
 }
-
--- a mark, as `is_ready` reads it
-mark-test : (b : Bool) → ltb 0 (cond b 1 0) ≡ b
-mark-test true = refl
-mark-test false = refl
-
-pub mark-ready : {I : Instance} {P : Schedule} {xs : List ℕ} → Needs I P xs → {i : ℕ} → i < task_count I → {x : Bool} → x ≡ ltb 0 (get_or xs i 0) → x ≡ ready I P i
-mark-ready {I} {P} n {i} h e = e ∙ ap (λ m. ltb 0 m) (n.is_ready i h) ∙ mark-test (ready I P i)
 
 -- ---- a task whose run, and the runs of whose makers, stay as they were
 module _ (I : Instance) (P P' : Schedule) (j : ℕ) (own : run_at P' j ≡ run_at P j)
@@ -90,10 +78,11 @@ module _ (I : Instance) (Q : Partial) (i : ℕ) (c : Rules.Colour) (s : ℕ) whe
     ready-same : ready I after j ≡ ready I before j
     ready-same = same_test (ready I after j) (ready I before j) back-ready (stays-ready I before after j own_same maker-same)
 
-  pub needs-but : {xs : List ℕ} → Needs I Q.schedule xs → NeedsBut I (assign I Q i c s).schedule i xs
-  needs-but n = record {
-    is_ready = λ j l d none. n.is_ready j l ∙ ap (λ r. cond r 1 0) (sym (ready-same d none));
-    room = n.room;
-    kept = n.kept;
-    demand = λ j l d none r x. demand-stays I before after j (own_same d none) (maker-same d none) (as_colour x) (n.demand j l (back-ready d none r) x);
+  pub right-but : {xs : Needs} → Right I Q.schedule xs → RightBut I (assign I Q i c s).schedule i xs
+  right-but n = record {
+    sized = n.sized;
+    admitted = λ j l d none. let x = n.admitted j l in record {
+      is_ready = x.is_ready ∙ sym (ready-same d none);
+      demand = λ r y. demand-stays I before after j (own_same d none) (maker-same d none) (as_colour y) (x.demand (back-ready d none r) y);
+    };
   }

@@ -3,19 +3,18 @@ use Prim.Native.Nat.{ℕ, suc, ◌<◌}
 use mathlib.Core.Bool.{Bool, true, false, not}
 use mathlib.Core.Path.{◌≡◌, sym, ap, ◌∙◌}
 use native.Mathlib.Omega.{arith}
-use lib.Dec.{ltb}
 use Rattle.rules.specs.Count.{any_below}
-use Rattle.rules.specs.Model.{Instance, Schedule, file_count, is_placed, run_at}
+use Rattle.rules.specs.Model.{Instance, Schedule, file_at, file_count, is_placed, run_at}
 use Rattle.rules.specs.Scheduling.{reads, missing, ready}
 use Rattle.rules.proofs.Tests.{and_no}
 use Rattle.rules.proofs.CountLaws.{any_some}
 use Rattle.model.specs.declared.layout.Shape.{Shape}
-use Rattle.model.specs.Layout.{Job, Entries, instance_from, schedule_from, Bounds}
-use Rattle.model.proofs.LayoutLaws.{file-count, maker-at, run-at}
+use Rattle.model.specs.Layout.{Job, Entries, instance_from, schedule_from}
+use Rattle.model.proofs.LayoutLaws.{file-count}
 use Rattle.links.specs.Chains.{NextOf}
 use Rattle.links.proofs.ChainLaws.{any-first, any-behind}
 
-module _ {b : Shape} {J : Job} {L : Entries} (f : Bounds b J L) (i : ℕ) where
+module _ (b : Shape) (J : Job) (L : Entries) (i : ℕ) where
   abbrev I : Instance
   I = instance_from b J
 
@@ -31,9 +30,9 @@ module _ {b : Shape} {J : Job} {L : Entries} (f : Bounds b J L) (i : ℕ) where
   missing-first next = any-first next (missing I P i) missing-only
 
   -- file k, which it reads, by whether the maker is placed
-  module _ {k : ℕ} (h : k < b.files) (read : reads I i k ≡ true) {m : ℕ} {x : Bool} (maker : m ≡ J.maker k) (q : x ≡ ltb 0 (L.processor m)) where
+  module _ {k : ℕ} (h : k < b.files) (read : reads I i k ≡ true) {m : ℕ} {x : Bool} (maker : m ≡ (file_at I k).maker) (q : x ≡ is_placed (run_at P m)) where
     pub missing_at : missing I P i k ≡ not x
-    missing_at = rw (read, maker-at b J k h, run-at b L (J.maker k) (f.job.maker k h), q, maker)
+    missing_at = rw (read, q, maker)
 
     -- and none up to the next one
     pub missing-skip : {r : ℕ} → NextOf b.files (reads I i) (suc k) r → any_below k (missing I P i) ≡ false → not x ≡ false
@@ -41,10 +40,10 @@ module _ {b : Shape} {J : Job} {L : Entries} (f : Bounds b J L) (i : ℕ) where
     missing-skip next none here = any-behind next (missing I P i) missing-only ∙ rw (none, missing_at, here)
 
   -- all files, of a task that is placed or not
-  module _ (h : i < b.tasks) {x : Bool} (q : x ≡ ltb 0 (L.processor i)) where
+  module _ (h : i < b.tasks) {x : Bool} (q : x ≡ is_placed (run_at P i)) where
     pub ready-placed : x ≡ true → false ≡ ready I P i
     unfolding ready
-    ready-placed t = rw (run-at b L i h, ← q, t)
+    ready-placed t = rw (← q, t)
 
     pub ready-missing : {k : ℕ} → k < b.files → {y : Bool} → missing I P i k ≡ y → y ≡ true → false ≡ ready I P i
     unfolding ready
@@ -56,4 +55,4 @@ module _ {b : Shape} {J : Job} {L : Entries} (f : Bounds b J L) (i : ℕ) where
     unfolding ready
     ready-found u e a =
         let z : any_below (file_count I) (missing I P i) ≡ false = ap (λ n. any_below n (missing I P i)) (file-count b J ∙ sym e) ∙ a in
-        rw (run-at b L i h, ← q, u, z)
+        rw (← q, u, z)

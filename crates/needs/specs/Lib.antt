@@ -1,3 +1,4 @@
 -- What the contracts of this crate cite beside the rules' own definitions.
 pub mod Demands
-pub mod Table
+pub mod Needs
+pub mod Tables

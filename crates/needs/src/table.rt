@@ -1,211 +1,150 @@
-// A table of the needs of each task: whether it is ready, its room, what it keeps, and, once it is ready, its demand on each colour.
-ghost use Rattle.std.specs.Prelude.{Bool, true, ◌≡◌, ℕ, ◌+◌, ◌*◌, ◌<◌, ◌≤◌, ltb, get_or, length};
+// The needs of each task: whether it is ready, its room, what it keeps, and, once it is ready, its demand on each colour.
+ghost use Rattle.std.specs.Prelude.{◌≡◌, ◌≤◌, ◌<◌, length};
 ghost use Rattle.rules.specs.Count.{sum_where};
 ghost use Rattle.rules.specs.Limits.{max_tasks};
-ghost use Rattle.rules.specs.Model.{file_count, size_at, is_placed, run_at};
-ghost use Rattle.rules.specs.Scheduling.{reads, makes};
-ghost use Rattle.model.specs.Layout.{instance_of, schedule_of, JobInBounds, InBounds, most_files};
-ghost use Rattle.links.specs.Chains.{Chained};
-ghost use Rattle.needs.specs.Table.{place, room_place, kept_place, demand_column, needs_length, demand_at, with_sizes_at, with_demand_at};
-ghost use Rattle.needs.specs.Table.{SameBut, SameSizes, Admitted, Needs, NeedsBut, NeedsBounds};
+ghost use Rattle.rules.specs.Model.{file_count, size_at};
+ghost use Rattle.model.specs.Jobs.{instance_in};
+ghost use Rattle.model.specs.Layout.{schedule_of, ScheduleInBounds, most_files, most_held};
+ghost use Rattle.links.specs.Chains.{has_at};
+ghost use Rattle.needs.specs.Needs.{Admitted, NeedBounds, NeedsBounds};
 
-use super::TABLE;
 use super::demand::{Demand, demand_of};
 use super::readiness::ready;
-use model::colour::{Colour, by_colour};
+use links::{End, Links};
+use model::colour::{ByColour, Colour};
 use model::layout;
-use model::layout::Shape;
 use rules::Board;
 
-// The mark of a ready task stands in front; behind it, in columns as long, its room and what it keeps.
-const ROOM: usize = Board::MAX_TASKS;
-
-const KEPT: usize = ROOM + Board::MAX_TASKS;
-
-// The first of the three columns of its demand on blue, and on red.
-const ON_BLUE: u64 = 3;
-
-const ON_RED: u64 = 6;
-
-// Whether task i is ready.
-pub fn is_ready(needs: &[u64; TABLE], i: usize) -> bool
-    requires { i < max_tasks }
-    ensures { result ≡ ltb 0 (get_or needs.now i 0) }
-{
-    0 < needs[i]
+// A task's: whether it is ready; what it makes and its working memory; all that it reads and its working memory.
+#[derive(Clone, Copy)]
+pub struct Need {
+    pub ready: bool,
+    pub room: u64,
+    pub kept: u64,
+    pub demand: ByColour<Demand>,
 }
 
-// What task i makes and its working memory.
-pub fn room(needs: &[u64; TABLE], i: usize) -> u64
-    requires { i < max_tasks }
-    ensures { result ≡ get_or needs.now (room_place i) 0 }
-{
-    needs[ROOM + i]
+// The needs of all tasks.
+#[derive(Drop)]
+pub struct Needs {
+    tasks: [Need; Board::MAX_TASKS],
+    ghost whole: { length tasks ≡ max_tasks },
+    ghost bounds: { NeedsBounds tasks },
 }
 
-// All that task i reads and its working memory.
-pub fn kept(needs: &[u64; TABLE], i: usize) -> u64
-    requires { i < max_tasks }
-    ensures { result ≡ get_or needs.now (kept_place i) 0 }
-{
-    needs[KEPT + i]
-}
-
-// Where the demand of task i on the colour begins.
-fn demand_place(i: usize, colour: Colour) -> usize
-    requires { i < max_tasks }
-    ensures value { result ≡ place (demand_column colour) i }
-    ensures max_tasks_bound { result + 2 * max_tasks < needs_length }
-{
-    let column = by_colour(colour, ON_BLUE, ON_RED) as usize;
-    column * Board::MAX_TASKS + i
-}
-
-// The demand of task i on the colour.
-pub fn demand(needs: &[u64; TABLE], i: usize, colour: Colour) -> Demand
-    requires { i < max_tasks }
-    ensures { result ≡ demand_at needs.now i colour }
-{
-    let at = demand_place(i, colour);
-    Demand {
-        incoming: needs[at],
-        arrival: needs[at + Board::MAX_TASKS],
-        longest: needs[at + 2 * Board::MAX_TASKS],
-    }
-}
-
-// Writes the demand of task i on the colour.
-fn set_demand(needs: &mut [u64; TABLE], i: usize, colour: Colour, demand: Demand)
-    requires { i < max_tasks }
-    ensures needs_after { needs.new ≡ with_demand_at needs.old i colour demand }
-    ensures needs_len { (length needs.old ≡ needs_length) × (length needs.new ≡ needs_length) }
-{
-    let at = demand_place(i, colour);
-    layout::store(needs, at, demand.incoming);
-    layout::store(needs, at + Board::MAX_TASKS, demand.arrival);
-    layout::store(needs, at + 2 * Board::MAX_TASKS, demand.longest);
-}
-
-// Writes the sizes of task i.
-fn set_sizes(needs: &mut [u64; TABLE], i: usize, room: u64, kept: u64)
-    requires { i < max_tasks }
-    ensures needs_after { needs.new ≡ with_sizes_at needs.old i room kept }
-    ensures needs_len { (length needs.old ≡ needs_length) × (length needs.new ≡ needs_length) }
-{
-    layout::store(needs, ROOM + i, room);
-    layout::store(needs, KEPT + i, kept);
-}
-
-// The sizes of the files of one task, made or read, along their chain.
-fn sizes<'a>(
-    shape: Shape,
-    job: &'a layout::Numbers,
-    first: &'a [u64; Board::MAX_TASKS],
-    next: &'a [u64; Board::MAX_FILES],
-    task: u64,
-) -> u64
-    requires job_in_bounds { JobInBounds shape job.now }
-    requires by_index { (has : ℕ → ℕ → Bool) × Chained (instance_of shape job.now) has first.now next.now }
-    requires task_lt_tasks { task < shape.tasks }
-    ensures by_index_2 { (has : ℕ → ℕ → Bool) → Chained (instance_of shape job.now) has first.now next.now →
-        result ≡ sum_where (file_count (instance_of shape job.now)) (has task) (size_at (instance_of shape job.now)) }
+// The sizes of the files that have the task at that end, along their chain.
+fn sizes(links: &Links, end: End, task: usize) -> u64
+    requires { task < links.now.job.shape.tasks }
+    ensures value { result ≡ sum_where (file_count (instance_in links.now.job)) (has_at end (instance_in links.now.job) task) (size_at (instance_in links.now.job)) }
     ensures upper_bound { result ≤ most_files }
 {
     let mut sum: u64 = 0;
-    let mut k = first[task as usize] as usize;
-    while k < shape.files {
-        sum += layout::size(job, k);
-        k = next[k] as usize;
+    let mut at = links.first(end, task);
+    while let Some(k) = at {
+        sum += links.job.size(k);
+        at = links.next(end, k);
     }
     sum
 }
 
-// Writes whether the task is ready, and if it is, its demand on both colours.
-fn admit<'a>(
-    shape: Shape,
-    job: &'a layout::Numbers,
-    schedule: &'a layout::Schedule,
-    first: &'a [u64; Board::MAX_TASKS],
-    next: &'a [u64; Board::MAX_FILES],
-    needs: &mut [u64; TABLE],
-    task: u64,
-)
-    requires in_bounds { InBounds shape job.now schedule.now }
-    requires chained { Chained (instance_of shape job.now) (reads (instance_of shape job.now)) first.now next.now }
-    requires needs_bounds { NeedsBounds needs.old }
-    requires task_lt_tasks { task < shape.tasks }
-    ensures admitted { Admitted (instance_of shape job.now) (schedule_of shape schedule.now) needs.new task }
-    ensures same_but { SameBut task needs.old needs.new × SameSizes task needs.old needs.new }
-    ensures needs_bounds_2 { NeedsBounds needs.new }
+// The task's need, with these sizes: whether it is ready, and if it is, its demand on both colours.
+fn need_of(links: &Links, schedule: &layout::Schedule, task: usize, room: u64, kept: u64) -> Need
+    requires schedule_in_bounds { ScheduleInBounds links.now.job.shape schedule.now }
+    requires task_lt_tasks { task < links.now.job.shape.tasks }
+    requires room_bound { (room ≤ most_held) × (kept ≤ most_held) }
+    ensures admitted { Admitted (instance_in links.now.job) (schedule_of links.now.job.shape schedule.now) task result }
+    ensures sizes { (result.room ≡ room) × (result.kept ≡ kept) }
+    ensures bounds { NeedBounds result }
 {
-    let i = task as usize;
-    if ready(shape, job, schedule, first, next, task) {
-        let blue = demand_of(shape, job, schedule, first, next, task, Colour::Blue);
-        let red = demand_of(shape, job, schedule, first, next, task, Colour::Red);
-        set_demand(needs, i, Colour::Blue, blue);
-        set_demand(needs, i, Colour::Red, red);
-        layout::store(needs, i, 1);
-    } else {
-        layout::store(needs, i, 0);
+    let ready = ready(links, schedule, task);
+    let mut demand = ByColour {
+        blue: Demand::new(),
+        red: Demand::new(),
+    };
+    if ready {
+        demand.blue = demand_of(links, schedule, task, Colour::Blue);
+        demand.red = demand_of(links, schedule, task, Colour::Red);
+    }
+    Need {
+        ready,
+        room,
+        kept,
+        demand,
     }
 }
 
-// The table for the schedule, from the chains of the files made and of those read.
-pub fn start<'a>(
-    shape: Shape,
-    job: &'a layout::Numbers,
-    made_first: &'a [u64; Board::MAX_TASKS],
-    made_next: &'a [u64; Board::MAX_FILES],
-    read_first: &'a [u64; Board::MAX_TASKS],
-    read_next: &'a [u64; Board::MAX_FILES],
-    schedule: &'a layout::Schedule,
-    needs: &mut [u64; TABLE],
-)
-    requires in_bounds { InBounds shape job.now schedule.now }
-    requires chained { Chained (instance_of shape job.now) (makes (instance_of shape job.now)) made_first.now made_next.now }
-    requires chained_2 { Chained (instance_of shape job.now) (reads (instance_of shape job.now)) read_first.now read_next.now }
-    requires needs_bounds { NeedsBounds needs.old }
-    ensures needs { Needs (instance_of shape job.now) (schedule_of shape schedule.now) needs.new }
-    ensures needs_bounds_2 { NeedsBounds needs.new }
-{
-    let mut i: usize = 0;
-    while i < shape.tasks {
-        let task = i as u64;
-        let work = layout::work(job, i);
-        let room = sizes(shape, job, made_first, made_next, task) + work;
-        let kept = sizes(shape, job, read_first, read_next, task) + work;
-        set_sizes(needs, i, room, kept);
-        admit(shape, job, schedule, read_first, read_next, needs, task);
-        i += 1;
-    }
-}
+impl Needs {
+    ghost use Rattle.std.specs.Prelude.{◌≡◌, ◌<◌, true};
+    ghost use Rattle.rules.specs.Limits.{max_tasks};
+    ghost use Rattle.rules.specs.Model.{is_placed, run_at};
+    ghost use Rattle.model.specs.Jobs.{instance_in};
+    ghost use Rattle.model.specs.Layout.{schedule_of, ScheduleInBounds};
+    ghost use Rattle.needs.specs.Needs.{Admitted, NeedBounds};
+    ghost use Rattle.needs.specs.Tables.{need_at, SameBut, Right, RightBut};
 
-// The table after task i was placed: it is no longer ready, and the readers of what it makes may be.
-pub fn renew<'a>(
-    shape: Shape,
-    job: &'a layout::Numbers,
-    made_first: &'a [u64; Board::MAX_TASKS],
-    made_next: &'a [u64; Board::MAX_FILES],
-    read_first: &'a [u64; Board::MAX_TASKS],
-    read_next: &'a [u64; Board::MAX_FILES],
-    schedule: &'a layout::Schedule,
-    needs: &mut [u64; TABLE],
-    i: usize,
-)
-    requires in_bounds { InBounds shape job.now schedule.now }
-    requires chained { Chained (instance_of shape job.now) (makes (instance_of shape job.now)) made_first.now made_next.now }
-    requires chained_2 { Chained (instance_of shape job.now) (reads (instance_of shape job.now)) read_first.now read_next.now }
-    requires needs_but { NeedsBut (instance_of shape job.now) (schedule_of shape schedule.now) i needs.old }
-    requires needs_bounds { NeedsBounds needs.old }
-    requires i_lt_tasks { (i < shape.tasks) × (is_placed (run_at (schedule_of shape schedule.now) i) ≡ true) }
-    ensures needs { Needs (instance_of shape job.now) (schedule_of shape schedule.now) needs.new }
-    ensures needs_bounds_2 { NeedsBounds needs.new }
-{
-    layout::store(needs, i, 0);
-    let mut k = made_first[i] as usize;
-    while k < shape.files {
-        let reader = layout::reader(shape, job, k);
-        admit(shape, job, schedule, read_first, read_next, needs, reader);
-        k = made_next[k] as usize;
+    // Of a job of which nothing is worked out yet.
+    pub fn new() -> Self {
+        let need = Need {
+            ready: false,
+            room: 0,
+            kept: 0,
+            demand: ByColour {
+                blue: Demand::new(),
+                red: Demand::new(),
+            },
+        };
+        Needs {
+            tasks: [need; Board::MAX_TASKS],
+        }
+    }
+
+    // Task i's.
+    pub fn of(&self, i: usize) -> &Need
+        requires { i < max_tasks }
+        ensures value { result.now ≡ need_at self.now i }
+        ensures bounds { NeedBounds result.now }
+    {
+        &self.tasks[i]
+    }
+
+    // Task i's anew, with the sizes that it has.
+    fn admit(&mut self, links: &Links, schedule: &layout::Schedule, i: usize)
+        requires schedule_in_bounds { ScheduleInBounds links.now.job.shape schedule.now }
+        requires i_lt_tasks { i < links.now.job.shape.tasks }
+        ensures admitted { Admitted (instance_in links.now.job) (schedule_of links.now.job.shape schedule.now) i (need_at self.new i) }
+        ensures sizes { ((need_at self.new i).room ≡ (need_at self.old i).room) × ((need_at self.new i).kept ≡ (need_at self.old i).kept) }
+        ensures same_but { SameBut i self.old self.new }
+    {
+        let old = self.tasks[i];
+        self.tasks[i] = need_of(links, schedule, i, old.room, old.kept);
+    }
+
+    // All of them, for the schedule.
+    pub fn fill(&mut self, links: &Links, schedule: &layout::Schedule)
+        requires { ScheduleInBounds links.now.job.shape schedule.now }
+        ensures { Right (instance_in links.now.job) (schedule_of links.now.job.shape schedule.now) self.new }
+    {
+        for i in 0..links.job.shape.tasks {
+            let work = links.job.work(i);
+            let room = sizes(links, End::Maker, i) + work;
+            let kept = sizes(links, End::Reader, i) + work;
+            self.tasks[i] = need_of(links, schedule, i, room, kept);
+        }
+    }
+
+    // After task i was placed: it is no longer ready, and the readers of what it makes may be.
+    pub fn renew(&mut self, links: &Links, schedule: &layout::Schedule, i: usize)
+        requires schedule_in_bounds { ScheduleInBounds links.now.job.shape schedule.now }
+        requires right_but { RightBut (instance_in links.now.job) (schedule_of links.now.job.shape schedule.now) i self.old }
+        requires i_lt_tasks { (i < links.now.job.shape.tasks) × (is_placed (run_at (schedule_of links.now.job.shape schedule.now) i) ≡ true) }
+        ensures { Right (instance_in links.now.job) (schedule_of links.now.job.shape schedule.now) self.new }
+    {
+        self.tasks[i].ready = false;
+        let mut at = links.first(End::Maker, i);
+        while let Some(k) = at {
+            let reader = links.job.reader(k);
+            self.admit(links, schedule, reader);
+            at = links.next(End::Maker, k);
+        }
     }
 }

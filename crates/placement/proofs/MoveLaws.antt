@@ -95,7 +95,7 @@ module _ {b : Shape} {J : Job} (f : JobBounds b J) (xs : StoredSchedule) (i : �
         })
 
   -- past files that the task does not read
-  pub moves-skip : {ys : StoredSchedule} {k r : ℕ} → NextOf (file_count inst) (reads inst i) k r → MovesTo ys k → MovesTo ys r
+  pub moves-skip : {ys : StoredSchedule} {k r : ℕ} → NextOf b.files (reads inst i) k r → MovesTo ys k → MovesTo ys r
   moves-skip {k = k} next m = record {
     size = m.size;
     runs = m.runs;

@@ -1,19 +1,17 @@
 // Both memories' staircases, as a task is placed: what it occupies in its own, and what leaves the other.
 ghost use Rattle.std.specs.Prelude.{false, ◌<◌, ◌≤◌};
 ghost use Rattle.rules.specs.Model.{blue, red};
-ghost use Rattle.rules.specs.Scheduling.{reads};
 ghost use Rattle.rules.specs.Staircase.{change_if};
 ghost use Rattle.model.specs.Layout.{schedule_of, last_start};
 ghost use Rattle.model.specs.Jobs.{instance_in};
-ghost use Rattle.links.specs.Chains.{Chained};
 ghost use Rattle.staircase.specs.Stairs.{Pending, Made};
 ghost use Rattle.placement.specs.Memory.{SizesOf, moves_of, own_of, changes_in};
 
+use links::{End, Links};
 use model::colour::{ByColour, Colour};
 use model::job::Job;
 use model::layout;
 use model::trial::Trial;
-use rules::Board;
 use staircase::Staircase;
 
 // What a placing changes: `room` for what the task makes and its working memory, `kept` what it reads and its working memory until
@@ -63,46 +61,30 @@ fn move_in(
 }
 
 // The staircase with the task's crossing files moved in, each from its own move's start on.
-fn move_all_in(
-    job: &Job,
-    schedule: &layout::Schedule,
-    first: &[u64; Board::MAX_TASKS],
-    next: &[u64; Board::MAX_FILES],
-    staircase: &mut Staircase,
-    trial: Trial,
-)
-    requires i_lt_tasks { trial.task < job.now.shape.tasks }
-    requires chained { Chained (instance_in job.now) (reads (instance_in job.now)) first.now next.now }
-    requires pending { Pending (moves_of job.now schedule.now trial 0 job.now.shape.files) staircase.old }
-    ensures { Made (moves_of job.now schedule.now trial 0 job.now.shape.files) staircase.old staircase.new }
+fn move_all_in(links: &Links, schedule: &layout::Schedule, staircase: &mut Staircase, trial: Trial)
+    requires i_lt_tasks { trial.task < links.now.job.shape.tasks }
+    requires pending { Pending (moves_of links.now.job schedule.now trial 0 links.now.job.shape.files) staircase.old }
+    ensures { Made (moves_of links.now.job schedule.now trial 0 links.now.job.shape.files) staircase.old staircase.new }
 {
-    let mut k = first[trial.task] as usize;
-    while k < job.shape.files {
-        move_in(job, schedule, staircase, trial, k);
-        k = next[k] as usize;
+    let mut at = links.first(End::Reader, trial.task);
+    while let Some(k) = at {
+        move_in(&links.job, schedule, staircase, trial, k);
+        at = links.next(End::Reader, k);
     }
 }
 
 // The staircase of the task's own memory with the task placed. Its crossing files move in; what it makes and its working memory are
 // there from its start on; what it reads and its working memory go at its release.
-fn occupy(
-    job: &Job,
-    schedule: &layout::Schedule,
-    first: &[u64; Board::MAX_TASKS],
-    next: &[u64; Board::MAX_FILES],
-    staircase: &mut Staircase,
-    placing: Placing,
-)
-    requires trial { (placing.trial.task < job.now.shape.tasks) × (placing.trial.start ≤ last_start) }
-    requires chained { Chained (instance_in job.now) (reads (instance_in job.now)) first.now next.now }
-    requires sizes_of { SizesOf (instance_in job.now) (schedule_of job.now.shape schedule.now) placing.trial placing.sizes }
-    requires pending { Pending (own_of job.now schedule.now placing.trial) staircase.old }
-    ensures { Made (own_of job.now schedule.now placing.trial) staircase.old staircase.new }
+fn occupy(links: &Links, schedule: &layout::Schedule, staircase: &mut Staircase, placing: Placing)
+    requires trial { (placing.trial.task < links.now.job.shape.tasks) × (placing.trial.start ≤ last_start) }
+    requires sizes_of { SizesOf (instance_in links.now.job) (schedule_of links.now.job.shape schedule.now) placing.trial placing.sizes }
+    requires pending { Pending (own_of links.now.job schedule.now placing.trial) staircase.old }
+    ensures { Made (own_of links.now.job schedule.now placing.trial) staircase.old staircase.new }
 {
     let trial = placing.trial;
-    let finish = trial.start + job.run_time(trial.task, trial.colour);
+    let finish = trial.start + links.job.run_time(trial.task, trial.colour);
     let release = finish.max(trial.start + 1);
-    move_all_in(job, schedule, first, next, staircase, trial);
+    move_all_in(links, schedule, staircase, trial);
     change_if(staircase, trial.start, placing.sizes.room, true);
     change_if(staircase, release, placing.sizes.kept, false);
 }
@@ -117,30 +99,27 @@ fn vacate(staircase: &mut Staircase, start: u64, incoming: u64)
 
 // Both memories' staircases with the task placed.
 pub fn both_memories(
-    job: &Job,
+    links: &Links,
     schedule: &layout::Schedule,
-    first: &[u64; Board::MAX_TASKS],
-    next: &[u64; Board::MAX_FILES],
     stairs: &mut ByColour<Staircase>,
     placing: Placing,
 )
-    requires trial { (placing.trial.task < job.now.shape.tasks) × (placing.trial.start ≤ last_start) }
-    requires chained { Chained (instance_in job.now) (reads (instance_in job.now)) first.now next.now }
-    requires sizes_of { SizesOf (instance_in job.now) (schedule_of job.now.shape schedule.now) placing.trial placing.sizes }
-    requires pending { Pending (changes_in blue job.now schedule.now placing.trial) stairs.old.blue }
-    requires pending_2 { Pending (changes_in red job.now schedule.now placing.trial) stairs.old.red }
-    ensures made { Made (changes_in blue job.now schedule.now placing.trial) stairs.old.blue stairs.new.blue }
-    ensures made_2 { Made (changes_in red job.now schedule.now placing.trial) stairs.old.red stairs.new.red }
+    requires trial { (placing.trial.task < links.now.job.shape.tasks) × (placing.trial.start ≤ last_start) }
+    requires sizes_of { SizesOf (instance_in links.now.job) (schedule_of links.now.job.shape schedule.now) placing.trial placing.sizes }
+    requires pending { Pending (changes_in blue links.now.job schedule.now placing.trial) stairs.old.blue }
+    requires pending_2 { Pending (changes_in red links.now.job schedule.now placing.trial) stairs.old.red }
+    ensures made { Made (changes_in blue links.now.job schedule.now placing.trial) stairs.old.blue stairs.new.blue }
+    ensures made_2 { Made (changes_in red links.now.job schedule.now placing.trial) stairs.old.red stairs.new.red }
 {
     let incoming = placing.sizes.incoming;
     let start = placing.trial.start;
     match placing.trial.colour {
         Colour::Blue => {
-            occupy(job, schedule, first, next, &mut stairs.blue, placing);
+            occupy(links, schedule, &mut stairs.blue, placing);
             vacate(&mut stairs.red, start, incoming);
         }
         Colour::Red => {
-            occupy(job, schedule, first, next, &mut stairs.red, placing);
+            occupy(links, schedule, &mut stairs.red, placing);
             vacate(&mut stairs.blue, start, incoming);
         }
     }

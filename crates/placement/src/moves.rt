@@ -3,17 +3,16 @@ ghost use Rattle.std.specs.Prelude.{◌≡◌, ℕ, ◌-◌, ◌<◌, length};
 ghost use Rattle.rules.specs.Count.{list_below};
 ghost use Rattle.rules.specs.Limits.{max_tasks};
 ghost use Rattle.rules.specs.Model.{file_count};
-ghost use Rattle.rules.specs.Scheduling.{reads, move_with};
+ghost use Rattle.rules.specs.Scheduling.{move_with};
 ghost use Rattle.model.specs.Colours.{as_colour};
 ghost use Rattle.model.specs.Layout.{entries_of, run_from, WholeSchedule, schedule_of};
 ghost use Rattle.model.specs.Jobs.{instance_in};
-ghost use Rattle.links.specs.Chains.{Chained};
 
+use links::{End, Links};
 use model::choice::select;
 use model::job::Job;
 use model::layout;
 use model::trial::Trial;
-use rules::Board;
 
 // When file k moves with the trial's task placed: a crossing file at the start less its own move time, any other as before.
 fn move_with(job: &Job, schedule: &layout::Schedule, trial: Trial, k: usize) -> u64
@@ -28,26 +27,19 @@ fn move_with(job: &Job, schedule: &layout::Schedule, trial: Trial, k: usize) -> 
 }
 
 // The move starts of all files, with the trial's task placed. The runs stay. Only files that the task reads move.
-pub fn set_moves(
-    job: &Job,
-    first: &[u64; Board::MAX_TASKS],
-    next: &[u64; Board::MAX_FILES],
-    schedule: &mut layout::Schedule,
-    trial: Trial,
-)
-    requires i_lt_tasks { trial.task < job.now.shape.tasks }
-    requires chained { Chained (instance_in job.now) (reads (instance_in job.now)) first.now next.now }
+pub fn set_moves(links: &Links, schedule: &mut layout::Schedule, trial: Trial)
+    requires i_lt_tasks { trial.task < links.now.job.shape.tasks }
     requires schedule_len { WholeSchedule schedule.old }
     ensures schedule_len_2 { WholeSchedule schedule.new }
     ensures by_index { (j : ℕ) → j < max_tasks → run_from (entries_of schedule.new) j ≡ run_from (entries_of schedule.old) j }
-    ensures schedule_after { list_below job.now.shape.files (entries_of schedule.new).move_start ≡
-        list_below (file_count (instance_in job.now))
-        (move_with (instance_in job.now) (schedule_of job.now.shape schedule.old) trial.task (as_colour trial.colour) trial.start) }
+    ensures schedule_after { list_below links.now.job.shape.files (entries_of schedule.new).move_start ≡
+        list_below (file_count (instance_in links.now.job))
+        (move_with (instance_in links.now.job) (schedule_of links.now.job.shape schedule.old) trial.task (as_colour trial.colour) trial.start) }
 {
-    let mut k = first[trial.task] as usize;
-    while k < job.shape.files {
-        let t = move_with(job, schedule, trial, k);
+    let mut at = links.first(End::Reader, trial.task);
+    while let Some(k) = at {
+        let t = move_with(&links.job, schedule, trial, k);
         layout::set_move_start(schedule, k, t);
-        k = next[k] as usize;
+        at = links.next(End::Reader, k);
     }
 }

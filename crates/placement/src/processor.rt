@@ -6,7 +6,7 @@ ghost use Rattle.model.specs.Colours.{as_colour};
 ghost use Rattle.model.specs.Layout.{Job, Entries, last_length, instance_from, partial_from, count_in, Processors};
 ghost use Rattle.placement.specs.Slots.{slot_in, last_in};
 
-use model::choice::{greater, value_if};
+use model::choice::value_if;
 use model::colour::{Colour, by_colour};
 use model::layout;
 use model::layout::Shape;
@@ -53,11 +53,9 @@ fn latest_in(shape: Shape, last: &[u64; layout::LAST], colour: Colour, start: u6
 {
     let n = count_in(shape, colour);
     let mut most: u64 = 0;
-    let mut p: usize = 0;
-    while p < n {
+    for p in 0..n {
         let finish = last_in(shape, last, colour, p);
-        most = greater(most, value_if(finish <= start, finish));
-        p += 1;
+        most = most.max(value_if(finish <= start, finish));
     }
     most
 }
@@ -66,10 +64,7 @@ fn latest_in(shape: Shape, last: &[u64; layout::LAST], colour: Colour, start: u6
 fn is_latest_free(finish: u64, start: u64, latest: u64) -> bool
     ensures { result ≡ leb finish start && eqb finish latest }
 {
-    if finish <= start {
-        return finish == latest;
-    }
-    false
+    finish <= start && finish == latest
 }
 
 // The processor chosen, counted from 0 within the colour; their number if none is free by the start.
@@ -80,12 +75,10 @@ pub fn chosen_processor(shape: Shape, last: &[u64; layout::LAST], colour: Colour
 {
     let n = count_in(shape, colour);
     let latest = latest_in(shape, last, colour, start);
-    let mut p: usize = 0;
-    while p < n {
+    for p in 0..n {
         if is_latest_free(last_in(shape, last, colour, p), start, latest) {
             return p as u64;
         }
-        p += 1;
     }
-    p as u64
+    n as u64
 }

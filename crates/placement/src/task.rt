@@ -2,81 +2,73 @@
 ghost use Rattle.std.specs.Prelude.{◌≡◌, ◌<◌, ◌≤◌, length};
 ghost use Rattle.rules.specs.Model.{blue, red};
 ghost use Rattle.rules.specs.Promises.{WellFormed, Trial as IsTrial};
-ghost use Rattle.rules.specs.Scheduling.{aware, reads, processor_start, assign as rules-assign};
+ghost use Rattle.rules.specs.Scheduling.{aware, processor_start, assign as rules-assign};
 ghost use Rattle.rules.specs.Staircase.{Placed};
 ghost use Rattle.model.specs.Colours.{as_colour};
 ghost use Rattle.model.specs.Layout.{WholeSchedule, last_length, schedule_of, partial_of, last_start};
 ghost use Rattle.model.specs.Jobs.{instance_in};
-ghost use Rattle.links.specs.Chains.{Chained};
 ghost use Rattle.staircase.specs.Stairs.{HoldsStairs};
 ghost use Rattle.placement.specs.Memory.{SizesOf};
 
 use super::memory::{Placing, Sizes, both_memories};
 use super::moves::set_moves;
 use super::processor::{chosen_processor, slot_in};
+use links::Links;
 use model::colour::ByColour;
-use model::job::Job;
 use model::layout;
 use model::trial::Trial;
-use rules::Board;
 use staircase::Staircase;
 
 // The trial's task in the timetable: the moves, the run and the last finish of its processor.
 fn assign(
-    job: &Job,
-    first: &[u64; Board::MAX_TASKS],
-    next: &[u64; Board::MAX_FILES],
+    links: &Links,
     schedule: &mut layout::Schedule,
     last: &mut [u64; layout::LAST],
     trial: Trial,
 )
-    requires chained { Chained (instance_in job.now) (reads (instance_in job.now)) first.now next.now }
     requires schedule_len { WholeSchedule schedule.old × (length last.old ≡ last_length) }
-    requires i_lt_tasks { (trial.task < job.now.shape.tasks) × (trial.start ≤ last_start) }
-    requires colour_bound { processor_start (instance_in job.now) (partial_of job.now.shape schedule.old last.old) (as_colour trial.colour) ≤ trial.start }
+    requires i_lt_tasks { (trial.task < links.now.job.shape.tasks) × (trial.start ≤ last_start) }
+    requires colour_bound { processor_start (instance_in links.now.job) (partial_of links.now.job.shape schedule.old last.old) (as_colour trial.colour) ≤ trial.start }
     ensures schedule_len_2 { WholeSchedule schedule.new × (length last.new ≡ last_length) }
-    ensures last_after { partial_of job.now.shape schedule.new last.new ≡
-        rules-assign (instance_in job.now) (partial_of job.now.shape schedule.old last.old) trial.task (as_colour trial.colour) trial.start }
+    ensures last_after { partial_of links.now.job.shape schedule.new last.new ≡
+        rules-assign (instance_in links.now.job) (partial_of links.now.job.shape schedule.old last.old) trial.task (as_colour trial.colour) trial.start }
 {
-    set_moves(job, first, next, schedule, trial);
-    let p = chosen_processor(job.shape, last, trial.colour, trial.start) as usize;
-    let slot = slot_in(job.shape, trial.colour, p);
+    set_moves(links, schedule, trial);
+    let p = chosen_processor(links.job.shape, last, trial.colour, trial.start) as usize;
+    let slot = slot_in(links.job.shape, trial.colour, p);
     layout::set_run(schedule, trial.task, slot as u64 + 1, trial.start);
-    let finish = trial.start + job.run_time(trial.task, trial.colour);
+    let finish = trial.start + links.job.run_time(trial.task, trial.colour);
     last[slot] = finish;
 }
 
 // The trial's task placed: in both memories' staircases, and in the timetable. Before and after it each memory's list of pairs equals
 // what the hold rule gives for the partial timetable.
 pub fn place(
-    job: &Job,
-    first: &[u64; Board::MAX_TASKS],
-    next: &[u64; Board::MAX_FILES],
+    links: &Links,
     schedule: &mut layout::Schedule,
     last: &mut [u64; layout::LAST],
     stairs: &mut ByColour<Staircase>,
     trial: Trial,
     sizes: Sizes,
 )
-    requires well_formed { WellFormed (instance_in job.now) }
-    requires chained { Chained (instance_in job.now) (reads (instance_in job.now)) first.now next.now }
+    requires well_formed { WellFormed (instance_in links.now.job) }
     requires schedule_len { WholeSchedule schedule.old × (length last.old ≡ last_length) }
-    requires placed { Placed (instance_in job.now) (partial_of job.now.shape schedule.old last.old) }
-    requires trial { IsTrial aware (instance_in job.now) (partial_of job.now.shape schedule.old last.old) trial.task (as_colour trial.colour) trial.start
+    requires placed { Placed (instance_in links.now.job) (partial_of links.now.job.shape schedule.old last.old) }
+    requires trial { IsTrial aware (instance_in links.now.job) (partial_of links.now.job.shape schedule.old last.old) trial.task (as_colour trial.colour) trial.start
         × (trial.start ≤ last_start) }
-    requires sizes_of { SizesOf (instance_in job.now) (schedule_of job.now.shape schedule.old) trial sizes }
-    requires holds_stairs { HoldsStairs (instance_in job.now) (schedule_of job.now.shape schedule.old) blue stairs.old.blue }
-    requires holds_stairs_2 { HoldsStairs (instance_in job.now) (schedule_of job.now.shape schedule.old) red stairs.old.red }
+    requires sizes_of { SizesOf (instance_in links.now.job) (schedule_of links.now.job.shape schedule.old) trial sizes }
+    requires holds_stairs { HoldsStairs (instance_in links.now.job) (schedule_of links.now.job.shape schedule.old) blue stairs.old.blue }
+    requires holds_stairs_2 { HoldsStairs (instance_in links.now.job) (schedule_of links.now.job.shape schedule.old) red stairs.old.red }
     ensures schedule_len_2 { WholeSchedule schedule.new × (length last.new ≡ last_length) }
-    ensures last_after { partial_of job.now.shape schedule.new last.new ≡
-        rules-assign (instance_in job.now) (partial_of job.now.shape schedule.old last.old) trial.task (as_colour trial.colour) trial.start }
-    ensures holds_stairs_3 { HoldsStairs (instance_in job.now)
-        (rules-assign (instance_in job.now) (partial_of job.now.shape schedule.old last.old) trial.task (as_colour trial.colour) trial.start).schedule
+    ensures last_after { partial_of links.now.job.shape schedule.new last.new ≡
+        rules-assign (instance_in links.now.job) (partial_of links.now.job.shape schedule.old last.old) trial.task (as_colour trial.colour) trial.start }
+    ensures holds_stairs_3 { HoldsStairs (instance_in links.now.job)
+        (rules-assign (instance_in links.now.job) (partial_of links.now.job.shape schedule.old last.old) trial.task (as_colour trial.colour) trial.start).schedule
         blue stairs.new.blue }
-    ensures holds_stairs_4 { HoldsStairs (instance_in job.now)
-        (rules-assign (instance_in job.now) (partial_of job.now.shape schedule.old last.old) trial.task (as_colour trial.colour) trial.start).schedule
+    ensures holds_stairs_4 { HoldsStairs (instance_in links.now.job)
+        (rules-assign (instance_in links.now.job) (partial_of links.now.job.shape schedule.old last.old) trial.task (as_colour trial.colour) trial.start).schedule
         red stairs.new.red }
 {
-    both_memories(job, schedule, first, next, stairs, Placing { trial, sizes });
-    assign(job, first, next, schedule, last, trial);
+    both_memories(links, schedule, stairs, Placing { trial, sizes });
+    assign(links, schedule, last, trial);
 }

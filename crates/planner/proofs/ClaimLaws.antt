@@ -22,6 +22,7 @@ use Rattle.model.specs.Layout.{Job, Entries, instance_from, schedule_from, parti
 use Rattle.model.proofs.LayoutLaws.{limit-of, last-finish-at}
 use Rattle.model.specs.declared.colour.ByColour.{ByColour}
 use Rattle.staircase.specs.Stairs.{HoldsStairs}
+use Rattle.needs.specs.declared.table.Needs.{Needs}
 use Rattle.starts.specs.Kept.{Kept}
 
 -- the least amount is no more than the first
@@ -54,7 +55,7 @@ free-first {I} {P} {c} {ss} W H =
 pub holds-one : {I : Instance} {P : Schedule} {c : RulesColour} {ss : List Step} → WellFormed I → HoldsStairs I P c ss → 0 < length ss
 holds-one {I} {P} {c} W H = rw H.steps (stairs_law I W P c).0.one
 
-module _ (b : Shape) (J : Job) (L : Entries) (last : List ℕ) {table : List ℕ} {kept : ByColour (List Step)}
+module _ (b : Shape) (J : Job) (L : Entries) (last : List ℕ) {table : Needs} {kept : ByColour (List Step)}
     (K : Kept (instance_from b J) (partial_from b L last) table kept) (done : Complete (instance_from b J) (schedule_from b L)) (c : Claim) where
   abbrev I : Instance
   I = instance_from b J

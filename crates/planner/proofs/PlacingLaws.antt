@@ -4,7 +4,6 @@ use mathlib.Core.Bool.{true}
 use mathlib.Core.List.{List}
 use mathlib.Core.Path.{◌≡◌, sym, ap, ◌∙◌}
 use native.Mathlib.Omega.{arith}
-use lib.ListN.{get_or}
 use Rattle.rules.specs.Limits.{max_tasks}
 use Rattle.rules.specs.Model as Rules
 use Rattle.rules.specs.Model.{Instance, Schedule, is_placed, run_at}
@@ -15,22 +14,23 @@ use Rattle.rules.proofs.PlacedLaws.{assign-placed}
 use Rattle.rules.proofs.StairsLaws.{placed-sound}
 use Rattle.model.specs.declared.layout.Shape.{Shape}
 use Rattle.model.specs.declared.colour.Colour.{Colour}
-use Rattle.model.specs.Colours.{as_colour}
+use Rattle.model.specs.Colours.{as_colour, own}
 use Rattle.model.specs.Layout.{Job, Entries, instance_from, schedule_from, partial_from, Bounds}
 use Rattle.model.proofs.LayoutLaws.{task-count, job-bounds}
 use Rattle.rules.specs.Staircase.{Step}
 use Rattle.model.specs.declared.colour.ByColour.{ByColour}
 use Rattle.model.specs.declared.trial.Trial.{Trial}
 use Rattle.staircase.specs.Stairs.{HoldsStairs}
-use Rattle.needs.specs.declared.demand.Demand.{Demand}
-use Rattle.needs.specs.Table.{room_place, kept_place, demand_at, Needs, NeedsBut}
-use Rattle.needs.proofs.NeedsLaws.{needs-but}
+use Rattle.needs.specs.declared.table.Need.{Need}
+use Rattle.needs.specs.declared.table.Needs.{Needs}
+use Rattle.needs.specs.Tables.{need_at, Right, RightBut}
+use Rattle.needs.proofs.NeedsLaws.{right-but}
 use Rattle.starts.specs.Kept.{Kept}
 use Rattle.placement.specs.declared.memory.Sizes.{Sizes}
 use Rattle.placement.specs.Memory.{SizesOf}
 use Rattle.planner.proofs.RunLaws.{placed-bounds}
 
-module _ (b : Shape) (J : Job) (L : Entries) (last : List ℕ) {table : List ℕ} {stairs : ByColour (List Step)}
+module _ (b : Shape) (J : Job) (L : Entries) (last : List ℕ) {table : Needs} {stairs : ByColour (List Step)}
     (K : Kept (instance_from b J) (partial_from b L last) table stairs) (t : Trial)
     (T : IsTrial aware (instance_from b J) (partial_from b L last) t.task (as_colour t.colour) t.start) where
   abbrev i : ℕ
@@ -54,13 +54,14 @@ module _ (b : Shape) (J : Job) (L : Entries) (last : List ℕ) {table : List ℕ
   pub trial-index : i < max_tasks
   trial-index = omega (arith, trial-task, (job-bounds b J K.well_formed).tasks)
 
-  pub placing-sizes : {d : Demand} {x : Sizes} → d ≡ demand_at table i colour → x.room ≡ get_or table (room_place i) 0 → x.kept ≡ get_or table (kept_place i) 0
-      → x.incoming ≡ d.incoming → SizesOf I (schedule_from b L) t x
-  placing-sizes e r k m = record {
-    room = r ∙ K.needs.room i T.exists;
-    kept = k ∙ K.needs.kept i T.exists;
-    incoming = m ∙ ap (λ d. d.incoming) e ∙ (K.needs.demand i T.exists T.is_ready colour).incoming;
-  }
+  pub placing-sizes : {n : Need} {x : Sizes} → n ≡ need_at table i → x.room ≡ n.room → x.kept ≡ n.kept → x.incoming ≡ (own colour n.demand).incoming
+      → SizesOf I (schedule_from b L) t x
+  placing-sizes e r k m =
+      let s = K.needs.sized i T.exists in record {
+        room = r ∙ ap (λ (n : Need). n.room) e ∙ s.room;
+        kept = k ∙ ap (λ (n : Need). n.kept) e ∙ s.kept;
+        incoming = m ∙ ap (λ (n : Need). (own colour n.demand).incoming) e ∙ ((K.needs.admitted i T.exists).demand T.is_ready colour).incoming;
+      }
 
   -- with the task placed
   module _ (L' : Entries) (last' : List ℕ) (e : partial_from b L' last' ≡ assign I Q i (as_colour colour) s) where
@@ -76,10 +77,10 @@ module _ (b : Shape) (J : Job) (L : Entries) (last : List ℕ) {table : List ℕ
     pub after-placed : is_placed (run_at (schedule_from b L') i) ≡ true
     after-placed = rw (sym same) (assign-placed I Q i (as_colour colour) s (omega (arith, (placed-sound I K.well_formed K.placed).1.runs, T.exists)))
 
-    pub after-needs : NeedsBut I (schedule_from b L') i table
-    after-needs = rw (sym same) (needs-but I Q i (as_colour colour) s K.needs)
+    pub after-needs : RightBut I (schedule_from b L') i table
+    after-needs = rw (sym same) (right-but I Q i (as_colour colour) s K.needs)
 
-    pub after_kept : {table' : List ℕ} {stairs' : ByColour (List Step)} → Needs I (schedule_from b L') table'
+    pub after_kept : {table' : Needs} {stairs' : ByColour (List Step)} → Right I (schedule_from b L') table'
         → HoldsStairs I (assign I Q i (as_colour colour) s).schedule Rules.blue stairs'.blue
         → HoldsStairs I (assign I Q i (as_colour colour) s).schedule Rules.red stairs'.red
         → Kept I (partial_from b L' last') table' stairs'

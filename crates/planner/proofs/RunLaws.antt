@@ -30,19 +30,19 @@ use Rattle.model.specs.declared.colour.ByColour.{ByColour}
 use Rattle.model.specs.declared.trial.Trial.{Trial}
 use Rattle.staircase.specs.Stairs.{HoldsStairs}
 use Rattle.staircase.proofs.StairsLaws.{holds-ticks}
-use Rattle.needs.specs.Table.{Needs, NeedsBounds}
-use Rattle.starts.specs.Kept.{Kept, KeptBounds, TicksWithin}
+use Rattle.needs.specs.declared.table.Needs.{Needs}
+use Rattle.needs.specs.Tables.{Right}
+use Rattle.starts.specs.Kept.{Kept, StairsBounds, TicksWithin}
 use Rattle.selection.specs.declared.round.Round.{Round}
 use Rattle.selection.specs.Choices.{as_choice, as_round, TrialBounds, ChoiceBounds}
 use Rattle.planner.specs.Outcomes.{FreeWithin}
 use Rattle.planner.specs.Boards.{Suited}
 use Rattle.planner.proofs.ClaimLaws.{holds-one, free-first}
 
-pub record Planning (R : Planner) (b : Shape) (J : Job) (L : Entries) (last table : List ℕ) (stairs : ByColour (List Step)) (placed trials : ℕ) : Type 0 where
+pub record Planning (R : Planner) (b : Shape) (J : Job) (L : Entries) (last : List ℕ) (table : Needs) (stairs : ByColour (List Step)) (placed trials : ℕ) : Type 0 where
   pub most : placed ≤ b.tasks
   pub sound : Sound (instance_from b J) placed (partial_from b L last)
   pub kept : Kept (instance_from b J) (partial_from b L last) table stairs
-  pub numbers : NeedsBounds table
   pub rest : outcome R (instance_from b J) ≡ rounds R (instance_from b J) (b.tasks - placed) (partial_from b L last) trials
   pub counted : trials ≤ 2 * max_tasks * placed
 
@@ -94,11 +94,11 @@ module _ (R : Planner) (b : Shape) (J : Job) (W : WellFormed (instance_from b J)
   abbrev I : Instance
   I = instance_from b J
 
-  pub planning-start : (L : Entries) (last table : List ℕ) {stairs : ByColour (List Step)} → partial_from b L last ≡ empty I
-      → Needs I (schedule_from b L) table → NeedsBounds table
+  pub planning-start : (L : Entries) (last : List ℕ) (table : Needs) {stairs : ByColour (List Step)} → partial_from b L last ≡ empty I
+      → Right I (schedule_from b L) table
       → HoldsStairs I (empty I).schedule blue stairs.blue → HoldsStairs I (empty I).schedule red stairs.red
       → Planning R b J L last table stairs 0 0
-  planning-start L last table e needs numbers hb hr = record {
+  planning-start L last table e needs hb hr = record {
     most = omega arith;
     sound = rw e (empty-sound I);
     kept = record {
@@ -108,7 +108,6 @@ module _ (R : Planner) (b : Shape) (J : Job) (W : WellFormed (instance_from b J)
       blue = rw (ap (λ q. q.schedule) e) hb;
       red = rw (ap (λ q. q.schedule) e) hr;
     };
-    numbers = numbers;
     rest = outcome-is R I ∙ rw (task-count b J, e, none-placed);
     counted = omega arith;
   }
@@ -116,7 +115,7 @@ module _ (R : Planner) (b : Shape) (J : Job) (W : WellFormed (instance_from b J)
       none-placed : b.tasks - 0 ≡ b.tasks
       none-placed = omega arith
 
-  module _ {L : Entries} {last table : List ℕ} {stairs : ByColour (List Step)} {placed trials : ℕ} (p : Planning R b J L last table stairs placed trials) where
+  module _ {L : Entries} {last : List ℕ} {table : Needs} {stairs : ByColour (List Step)} {placed trials : ℕ} (p : Planning R b J L last table stairs placed trials) where
     abbrev Q : Partial
     Q = partial_from b L last
 
@@ -125,9 +124,8 @@ module _ (R : Planner) (b : Shape) (J : Job) (W : WellFormed (instance_from b J)
     pub planning-last : LastBounds b last
     planning-last = sound-last b J W L last p.sound p.most
 
-    pub planning-numbers : KeptBounds table stairs
-    planning-numbers = record {
-      needs = p.numbers;
+    pub planning-stairs : StairsBounds stairs
+    planning-stairs = record {
       blue = sound-ticks b J W L last p.sound p.most blue p.kept.blue;
       red = sound-ticks b J W L last p.sound p.most red p.kept.red;
     }
@@ -173,14 +171,13 @@ module _ (R : Planner) (b : Shape) (J : Job) (W : WellFormed (instance_from b J)
           pub planning-trial : IsTrial aware I Q i (as_colour colour) s
           planning-trial = suited-trial (memory_of R) I W A Q i (as_colour colour) s trial
 
-          pub planning-next : {L' : Entries} {last' table' : List ℕ} {stairs' : ByColour (List Step)} → partial_from b L' last' ≡ assign I Q i (as_colour colour) s
-              → Kept I (partial_from b L' last') table' stairs' → NeedsBounds table' → x.trials ≤ 2 * b.tasks
+          pub planning-next : {L' : Entries} {last' : List ℕ} {table' : Needs} {stairs' : ByColour (List Step)} → partial_from b L' last' ≡ assign I Q i (as_colour colour) s
+              → Kept I (partial_from b L' last') table' stairs' → x.trials ≤ 2 * b.tasks
               → Planning R b J L' last' table' stairs' (placed + 1) (trials + x.trials)
-          planning-next q kept numbers t = record {
+          planning-next q kept t = record {
             most = omega arith;
             sound = rw (add-one placed, q) (assign-sound I W placed Q p.sound (memory_of R) i (as_colour colour) s trial);
             kept = kept;
-            numbers = numbers;
             rest = p.rest ∙ rw (one_more, q, trials-are) (rounds-place R I (b.tasks - (placed + 1)) Q trials i (as_colour colour) s chosen_is);
             counted = omega (arith, p.counted, (job-bounds b J W).tasks);
           }

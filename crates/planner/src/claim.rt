@@ -1,11 +1,12 @@
 // What a planner claims: the makespan from the last finishes, and each peak from its memory's staircase.
-ghost use Rattle.std.specs.Prelude.{◌≡◌, List, ℕ, ◌-◌, get_or};
+ghost use Rattle.std.specs.Prelude.{◌≡◌, ◌-◌, get_or};
 ghost use Rattle.rules.specs.Count.{max_below};
 ghost use Rattle.rules.specs.Model.{processor_count};
 ghost use Rattle.rules.specs.Staircase.{least_free};
 ghost use Rattle.rules.specs.Validity.{Complete, true_claim};
 ghost use Rattle.model.specs.Claims.{as_claim};
 ghost use Rattle.model.specs.Layout.{Job, Entries, instance_from, partial_from, schedule_from, Processors};
+ghost use Rattle.needs.specs.declared.table.Needs.{Needs};
 ghost use Rattle.starts.specs.Kept.{Kept};
 ghost use Rattle.planner.specs.Outcomes.{FreeWithin};
 
@@ -41,7 +42,7 @@ fn peak(limit: u64, staircase: &Staircase) -> u64
 pub fn claim_from(shape: Shape, last: &[u64; layout::LAST], stairs: &ByColour<Staircase>) -> Claim
     requires processors { Processors shape }
     requires free_within { FreeWithin shape.board.blue.limit stairs.now.blue × FreeWithin shape.board.red.limit stairs.now.red }
-    ensures { (J : Job) (L : Entries) (needs : List ℕ) →
+    ensures { (J : Job) (L : Entries) (needs : Needs) →
         Kept (instance_from shape J) (partial_from shape L last.now) needs stairs.now →
         Complete (instance_from shape J) (schedule_from shape L) →
         as_claim result ≡ true_claim (instance_from shape J) (schedule_from shape L) }

@@ -10,15 +10,15 @@ use lib.Seq.{get_or-set_same, get_or-set_other}
 use borrow.Author.Tests.{eqb-true}
 use Rattle.rules.specs.Count.{max_where}
 use Rattle.rules.specs.Limits.{max_tasks, move_times}
-use Rattle.rules.specs.Model.{blue, red, Instance, task_count, file_at, file_count, move_time_at}
+use Rattle.rules.specs.Model.{blue, red, time_on, task_at, Instance, task_count, file_at, file_count, move_time_at}
 use Rattle.rules.specs.Scheduling.{makes, weight_within, weight}
 use Rattle.rules.specs.Promises.{WellFormed}
 use Rattle.rules.proofs.CountLaws.{where-under, get_or-same}
 use Rattle.rules.proofs.WeightLaws.{weight_law}
 use Rattle.model.specs.declared.layout.Shape.{Shape}
 use Rattle.model.specs.Layout.{Job, instance_from}
-use Rattle.model.proofs.LayoutLaws.{file-count, task-count, task-at, reader_at, move-time-at}
-use Rattle.links.specs.Chains.{NextOf, Chained}
+use Rattle.model.proofs.LayoutLaws.{file-count, task-count}
+use Rattle.links.specs.Chains.{NextOf}
 use Rattle.links.proofs.ChainLaws.{max-first, max-behind}
 use Rattle.ranking.specs.Weights.{most_step, most_weight, WeightsFrom}
 
@@ -45,53 +45,40 @@ weight-bound I W i l = omega (arith, within-bound I W (task_count I) i l, W.task
 abbrev pub path_at : Instance → ℕ → ℕ
 path_at I k = move_time_at I k + weight I (file_at I k).reader
 
--- a walk along the files that task i makes has come to file k, and m is the greatest path of those passed
-pub record WalkedTo (I : Instance) (i k m : ℕ) : Type 0 where
-  pub within : k ≤ file_count I
-  pub made : k < file_count I → makes I i k ≡ true
-  pub most : m ≡ max_where k (makes I i) (path_at I)
-
 module _ (b : Shape) (J : Job) (W : WellFormed (instance_from b J)) where
   abbrev I : Instance
   I = instance_from b J
 
-  module _ {first next : List ℕ} (links : Chained I (makes I) first next) {i : ℕ} where
-    pub walk_start : i < b.tasks → WalkedTo I i (get_or first i 0) 0
-    walk_start h =
-        let begin = links.begins i (omega (arith, task-count b J)) in
-        record { within = begin.within; made = begin.holds; most = sym (max-first begin (makes I i) (λ j e. e) (path_at I)) }
+  module _ (i : ℕ) where
+    -- m is the greatest path of the files of task i below k
+    abbrev pub Walked : ℕ → ℕ → Type 0
+    Walked k m = m ≡ max_where k (makes I i) (path_at I)
 
-    module _ {k m : ℕ} (at : WalkedTo I i k m) (h : k < b.files) where
+    pub walk_start : {r : ℕ} → NextOf b.files (makes I i) 0 r → Walked r 0
+    walk_start begin = sym (max-first begin (makes I i) (λ j e. e) (path_at I))
+
+    -- file k, which it makes
+    module _ {k : ℕ} (m : ℕ) (at : Walked k m) (h : k < b.files) (made : makes I i k ≡ true) {ws : List ℕ} (f : WeightsFrom I ws (i + 1)) {d t : ℕ}
+        (p : d ≡ (file_at I k).reader) (q : t ≡ move_time_at I k) where
       is-file : k < file_count I
       is-file = omega (arith, file-count b J)
 
-      behind : NextOf (file_count I) (makes I i) (suc k) (get_or next k 0)
-      behind = links.goes_on i k is-file (at.made is-file)
+      path-known : path_at I k ≡ t + get_or ws d 0
+      path-known = omega (
+        arith,
+        q,
+        ap (weight I) p,
+        f.known d (omega (arith, p, W.ordered k is-file, eqb-true (file_at I k).maker i made)) (omega (arith, p, W.exists k is-file)),
+      )
 
-      pub walk-on : k < get_or next k 0
-      walk-on = omega (arith, behind.from)
+      pub walk_turn : {r n : ℕ} → NextOf b.files (makes I i) (suc k) n → r ≡ max m (t + get_or ws d 0) → Walked n r
+      walk_turn {r} {n} behind e =
+          let passed : max_where n (makes I i) (path_at I) ≡ max (max_where k (makes I i) (path_at I)) (path_at I k) =
+          rw made at (max-behind behind (makes I i) (λ j e. e) (path_at I)) in
+          omega (arith, passed, path-known, at, e)
 
-      module _ {ws : List ℕ} (f : WeightsFrom I ws (i + 1)) {d t : ℕ} (p : d ≡ J.reader k) (q : t ≡ J.move_time k) where
-        path-known : path_at I k ≡ t + get_or ws d 0
-        path-known =
-            let r : (file_at I k).reader ≡ d = reader_at b J k h ∙ sym p in
-            omega (
-              arith,
-              move-time-at b J k h,
-              ap (weight I) r,
-              f.known d (omega (arith, W.ordered k is-file, eqb-true (file_at I k).maker i (at.made is-file))) (omega (arith, W.exists k is-file)),
-            )
-
-        pub walk_turn : {r : ℕ} → r ≡ max m (t + get_or ws d 0) → WalkedTo I i (get_or next k 0) r
-        walk_turn e =
-            let passed : max_where (get_or next k 0) (makes I i) (path_at I) ≡ max (max_where k (makes I i) (path_at I)) (path_at I k) =
-            rw (at.made is-file) at (max-behind behind (makes I i) (λ j e. e) (path_at I)) in
-            record { within = behind.within; made = behind.holds; most = omega (arith, passed, path-known, at.most) }
-
-  pub walk_end : {i k m : ℕ} → WalkedTo I i k m → b.files ≤ k → m ≡ max_where (file_count I) (makes I i) (path_at I)
-  walk_end {i} at h =
-      let e = file-count b J in
-      at.most ∙ ap (λ n. max_where n (makes I i) (path_at I)) (omega (arith, at.within))
+    pub walk_end : {k m : ℕ} → Walked k m → k ≡ b.files → m ≡ max_where (file_count I) (makes I i) (path_at I)
+    walk_end at h = at ∙ ap (λ n. max_where n (makes I i) (path_at I)) (h ∙ sym (file-count b J))
 
   -- ---- the array of weights
 
@@ -109,12 +96,12 @@ module _ (b : Shape) (J : Job) (W : WellFormed (instance_from b J)) where
   weights-all e f i l = f.known i (omega arith) (omega (arith, task-count b J))
 
   -- one task's weight
-  module _ (i : ℕ) (h : i < b.tasks) {x y z : ℕ} (p : x ≡ J.on_blue i) (q : y ≡ J.on_red i) (e : z ≡ max_where (file_count I) (makes I i) (path_at I)) where
+  module _ (i : ℕ) (h : i < b.tasks) {x y z : ℕ} (p : x ≡ time_on blue (task_at I i)) (q : y ≡ time_on red (task_at I i)) (e : z ≡ max_where (file_count I) (makes I i) (path_at I)) where
     inside : i < task_count I
     inside = omega (arith, task-count b J)
 
     sum-weight : x + y + z ≡ weight I i
-    sum-weight = omega (arith, weight_law I W i inside, ap (λ a. a.on_blue) (task-at b J i h), ap (λ a. a.on_red) (task-at b J i h))
+    sum-weight = omega (arith, weight_law I W i inside)
 
     pub weight-fits : x + y + z ≤ most_weight
     weight-fits = omega (arith, sum-weight, weight-bound I W i inside)

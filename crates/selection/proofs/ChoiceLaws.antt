@@ -12,6 +12,9 @@ use Rattle.std.specs.Prelude.{Option}
 use Rattle.rules.specs.Staircase.{Step}
 use Rattle.model.specs.declared.colour.ByColour.{ByColour}
 use Rattle.model.specs.declared.trial.Trial.{Trial}
+use Rattle.needs.specs.declared.table.Need.{Need}
+use Rattle.needs.specs.declared.table.Needs.{Needs}
+use Rattle.needs.specs.Tables.{need_at}
 use Rattle.selection.specs.Choices.{as_choice, IdleOf}
 
 pub both_at : (m : Memory) (I : Instance) (Q : Partial) (i : ℕ) (f g : Option ℕ) (a b r : Option Trial)
@@ -23,24 +26,24 @@ both_at m I Q i f g a b r ef eg ea eb er = er ∙ rw (ea, eb, ef, eg)
 
 -- ---- what a trial goes by, of what is kept
 
-module _ {I : Instance} {Q : Partial} {table : List ℕ} {stairs : ByColour (List Step)} (K : Kept I Q table stairs) {idle : ByColour ℕ} (e : IdleOf I Q idle)
-    {i : ℕ} (h : i < task_count I) (r : ready I Q.schedule i ≡ true) where
-  pub on-blue : Tried I Q table stairs.blue idle.blue i Blue
+module _ {I : Instance} {Q : Partial} {needs : Needs} {stairs : ByColour (List Step)} (K : Kept I Q needs stairs) {idle : ByColour ℕ} (e : IdleOf I Q idle)
+    {i : ℕ} (h : i < task_count I) (r : ready I Q.schedule i ≡ true) {x : Need} (n : x ≡ need_at needs i) where
+  pub on-blue : Tried I Q x stairs.blue idle.blue i Blue
   on-blue = record {
     well_formed = K.well_formed;
     placed = K.placed;
-    demand = K.needs.demand i h r Blue;
-    room = K.needs.room i h;
+    demand = rw n ((K.needs.admitted i h).demand r Blue);
+    room = rw n (K.needs.sized i h).room;
     stairs = K.blue;
     idle = e.blue;
   }
 
-  pub on-red : Tried I Q table stairs.red idle.red i Red
+  pub on-red : Tried I Q x stairs.red idle.red i Red
   on-red = record {
     well_formed = K.well_formed;
     placed = K.placed;
-    demand = K.needs.demand i h r Red;
-    room = K.needs.room i h;
+    demand = rw n ((K.needs.admitted i h).demand r Red);
+    room = rw n (K.needs.sized i h).room;
     stairs = K.red;
     idle = e.red;
   }

@@ -1,23 +1,22 @@
 -- One turn of each planner's round, and what it comes to after all tasks.
-use Prim.Native.Nat.{ℕ, suc, ◌+◌, ◌<◌}
+use Prim.Native.Nat.{ℕ, ◌+◌, ◌<◌}
 use mathlib.Core.Bool.{Bool, true, false}
 use mathlib.Core.List.{List, [], ◌∷◌}
 use mathlib.Core.Path.{◌≡◌, refl, sym, ap, ◌∙◌}
 use native.Mathlib.Nat.{add-zero, zero-add, add_assoc}
 use native.Mathlib.Numerals.{add-one}
 use native.Mathlib.Omega.{arith}
-use lib.Dec.{ltb}
 use lib.ListN.{length, get_or, drop, drop_of_length-le}
 use lib.Seq.{drop-cons}
-use Rattle.rules.specs.Count.{list_below}
 use Rattle.rules.specs.Model.{Instance, task_count}
 use Rattle.rules.specs.Scheduling.{Memory, Partial, ready, Choice as Chosen, nothing, choose, earlier, both_colours, Round as Made, or_rest, first_that_fits, earliest_below}
-use Rattle.rules.proofs.CountLaws.{length-list_below, get_or-list_below}
 use Rattle.rules.proofs.Tests.{split, clash}
 use Rattle.model.specs.declared.layout.Shape.{Shape}
 use Rattle.model.specs.Layout.{Job, Entries, instance_from, partial_from}
 use Rattle.model.proofs.LayoutLaws.{task-count}
-use Rattle.needs.proofs.NeedsLaws.{mark-ready}
+use Rattle.needs.specs.declared.table.Need.{Need}
+use Rattle.needs.specs.declared.table.Needs.{Needs}
+use Rattle.needs.specs.Tables.{need_at}
 use Rattle.starts.specs.Kept.{Kept}
 use Rattle.selection.specs.declared.round.Round.{Round}
 use Rattle.std.specs.Prelude.{Option, None, Some, is_some}
@@ -103,17 +102,18 @@ module _ (m : Memory) (I : Instance) (Q : Partial) (i : ℕ) where
         let p : x ≡ nothing = ap (λ r. r.choice) (one ∙ one-waits e) in
         clash n (rw p))
 
--- ---- one task, from its mark in the table
+-- ---- one task, from its need
 
-module _ {I : Instance} {Q : Partial} {table : List ℕ} {stairs : ByColour (List Step)} (K : Kept I Q table stairs) {i : ℕ} (h : i < task_count I)
-    {x : Bool} (r : x ≡ ltb 0 (get_or table i 0)) where
-  pub is-ready : ready I Q.schedule i ≡ x
-  is-ready = sym (mark-ready K.needs h r)
+module _ {I : Instance} {Q : Partial} {needs : Needs} {stairs : ByColour (List Step)} (K : Kept I Q needs stairs) {i : ℕ} (h : i < task_count I)
+    {x : Need} (r : x ≡ need_at needs i) where
+  pub is-ready : ready I Q.schedule i ≡ x.ready
+  is-ready = sym (K.needs.admitted i h).is_ready ∙ ap (λ (n : Need). n.ready) (sym r)
 
-  pub one-tried : (m : Memory) → x ≡ true → (a : Option Trial) → as_choice a ≡ both_colours m I Q i → record { choice = as_choice a; trials = 2 } ≡ first_that_fits m I Q (i ∷ [])
+  pub one-tried : (m : Memory) → x.ready ≡ true → (a : Option Trial) → as_choice a ≡ both_colours m I Q i
+      → record { choice = as_choice a; trials = 2 } ≡ first_that_fits m I Q (i ∷ [])
   one-tried m t a e = rw (one-ready m I Q i (is-ready ∙ t), e)
 
-  pub one_left : (m : Memory) → x ≡ false → record { choice = nothing; trials = 0 } ≡ first_that_fits m I Q (i ∷ [])
+  pub one_left : (m : Memory) → x.ready ≡ false → record { choice = nothing; trials = 0 } ≡ first_that_fits m I Q (i ∷ [])
   one_left m u = rw (one-waits m I Q i (is-ready ∙ u))
 
 module _ (m : Memory) (b : Shape) (J : Job) (L : Entries) (last : List ℕ) where
@@ -158,39 +158,34 @@ module _ (m : Memory) (b : Shape) (J : Job) (L : Entries) (last : List ℕ) wher
   -- ---- HEFT
 
   module _ (order : List ℕ) where
-    abbrev tasks : List ℕ
-    tasks = list_below b.tasks (λ p. get_or order p 0)
-
     abbrev Left : ℕ → ℕ → Type 0
-    Left i trials = first_that_fits m I Q tasks ≡ after trials (first_that_fits m I Q (drop i tasks))
+    Left i trials = first_that_fits m I Q order ≡ after trials (first_that_fits m I Q (drop i order))
 
     left-all : Left 0 0
-    left-all = sym (after_none (first_that_fits m I Q tasks))
+    left-all = sym (after_none (first_that_fits m I Q order))
 
-    here : (i : ℕ) → i < b.tasks → drop i tasks ≡ get_or order i 0 ∷ drop (i + 1) tasks
-    here i h =
-        let l : i < length tasks = omega (arith, length-list_below b.tasks (λ p. get_or order p 0)) in
-        rw (add-one i) (drop-cons tasks i 0 l ∙ ap (λ x. x ∷ drop (suc i) tasks) (get_or-list_below b.tasks (λ p. get_or order p 0) i 0 h))
+    here : (i : ℕ) → i < length order → drop i order ≡ get_or order i 0 ∷ drop (i + 1) order
+    here i h = rw (add-one i) (drop-cons order i 0 h)
 
-    module _ {i : ℕ} (trials : ℕ) (h : i < b.tasks) (left : Left i trials) (one : Round) (e : as_round one ≡ first_that_fits m I Q (get_or order i 0 ∷ []))
+    module _ {i : ℕ} (trials : ℕ) (h : i < length order) (left : Left i trials) (one : Round) (e : as_round one ≡ first_that_fits m I Q (get_or order i 0 ∷ []))
         {x : Bool} (c : x ≡ is_chosen (as_choice one.choice)) where
       left-next : x ≡ false → Left (i + 1) (trials + one.trials)
       left-next n =
-          left ∙ rw (here i h, passed-by m I Q (get_or order i 0) (drop (i + 1) tasks) e (sym c ∙ n))
-          (after-after trials one.trials (first_that_fits m I Q (drop (i + 1) tasks)))
+          left ∙ rw (here i h, passed-by m I Q (get_or order i 0) (drop (i + 1) order) e (sym c ∙ n))
+          (after-after trials one.trials (first_that_fits m I Q (drop (i + 1) order)))
 
-      left-taken : x ≡ true → record { choice = as_choice one.choice; trials = trials + one.trials } ≡ first_that_fits m I Q tasks
-      left-taken n = sym (left ∙ rw (here i h, taken m I Q (get_or order i 0) (drop (i + 1) tasks) e (sym c ∙ n)))
+      left-taken : x ≡ true → record { choice = as_choice one.choice; trials = trials + one.trials } ≡ first_that_fits m I Q order
+      left-taken n = sym (left ∙ rw (here i h, taken m I Q (get_or order i 0) (drop (i + 1) order) e (sym c ∙ n)))
 
-    left-none : {i trials : ℕ} → Left i trials → i ≡ b.tasks → record { choice = nothing; trials = trials } ≡ first_that_fits m I Q tasks
+    left-none : {i trials : ℕ} → Left i trials → i ≡ length order → record { choice = nothing; trials = trials } ≡ first_that_fits m I Q order
     unfolding first_that_fits
     left-none {i} {trials} left e =
-        let d : drop i tasks ≡ [] = drop_of_length-le tasks {i = i} (omega (arith, length-list_below b.tasks (λ p. get_or order p 0))) in
+        let d : drop i order ≡ [] = drop_of_length-le order {i = i} (omega arith) in
         sym (left ∙ rw (d, add-zero trials))
 
 -- ---- the loops: whatever schedule stands behind what is kept
 
-module _ (m : Memory) (b : Shape) (J : Job) (last table : List ℕ) (stairs : ByColour (List Step)) where
+module _ (m : Memory) (b : Shape) (J : Job) (last : List ℕ) (table : Needs) (stairs : ByColour (List Step)) where
   -- what is kept beside a schedule with these last finishes
   abbrev pub KeptFor : Entries → Type 0
   KeptFor L = Kept (instance_from b J) (partial_from b L last) table stairs
@@ -229,16 +224,16 @@ module _ (m : Memory) (b : Shape) (J : Job) (last table : List ℕ) (stairs : By
     abbrev pub Found : Chosen → ℕ → Type 0
     Found choice trials =
         (L : Entries) → KeptFor L
-        → record { choice = choice; trials = trials } ≡ first_that_fits m (instance_from b J) (partial_from b L last) (list_below b.tasks (λ p. get_or order p 0))
+        → record { choice = choice; trials = trials } ≡ first_that_fits m (instance_from b J) (partial_from b L last) order
 
     pub left-start : LeftFor 0 0
     left-start = λ L k. left-all m b J L last order
 
-    pub left_end : {i trials : ℕ} → LeftFor i trials → i ≡ b.tasks → Found nothing trials
+    pub left_end : {i trials : ℕ} → LeftFor i trials → i ≡ length order → Found nothing trials
     left_end left e = λ L k. left-none m b J L last order (left L k) e
 
   module _ {idle : ByColour ℕ} (starts : (K : Job) (L : Entries) → IdleOf (instance_from b K) (partial_from b L last) idle) (order : List ℕ) {i : ℕ} (trials : ℕ)
-      (h : i < b.tasks) (left : LeftFor order i trials) (one : Round) (o : TriedOne one (get_or order i 0) idle)
+      (h : i < length order) (left : LeftFor order i trials) (one : Round) (o : TriedOne one (get_or order i 0) idle)
       {x : Bool} (c : x ≡ is_chosen (as_choice one.choice)) where
     pub left-on : x ≡ false → LeftFor order (i + 1) (trials + one.trials)
     left-on q = λ L k. left-next m b J L last order trials h (left L k) one (o (partial_from b L last) k (starts J L)) c q

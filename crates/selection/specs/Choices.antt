@@ -1,5 +1,5 @@
 -- The code's choice and round, as the rules have them, and the bounds of what they hold.
-use Rattle.std.specs.Prelude.{ℕ, ◌≤◌, ◌<◌, Bool, true, false, List, ◌≡◌, get_or, Option, None, Some, IfSome}
+use Rattle.std.specs.Prelude.{ℕ, ◌≤◌, ◌<◌, Bool, true, false, List, ◌≡◌, length, get_or, Option, None, Some, IfSome}
 use Rattle.rules.specs.Model.{blue, red, Instance}
 use Rattle.rules.specs.Scheduling.{Partial, processor_start, Choice as Chosen, nothing, choose, Round as Made}
 use Rattle.model.specs.declared.layout.Shape.{Shape}
@@ -28,9 +28,10 @@ TrialBounds b t = (t.task < b.tasks) × (t.start ≤ last_start)
 abbrev pub ChoiceBounds : Shape → Option Trial → Type 0
 ChoiceBounds b choice = IfSome choice (TrialBounds b)
 
--- each of the tasks listed exists
-abbrev pub OrderBounds : Shape → List ℕ → Type 0
-OrderBounds b order = (p : ℕ) → p < b.tasks → get_or order p 0 < b.tasks
+-- each of the tasks listed exists, and no more are listed than there are
+pub record OrderBounds (b : Shape) (order : List ℕ) : Type 0 where
+  pub count : length order ≤ b.tasks
+  pub exists : (p : ℕ) → p < length order → get_or order p 0 < b.tasks
 
 -- start 1 of each colour
 pub record IdleOf (I : Instance) (Q : Partial) (x : ByColour ℕ) : Type 0 where

@@ -1,12 +1,11 @@
 // One round of HEFT and one of MINMIN, memory aware or plain, and the trials that it took.
 ghost use Rattle.std.specs.Prelude.{[], ◌∷◌, ◌≡◌, ◌*◌, ◌<◌, ◌≤◌, get_or};
-ghost use Rattle.rules.specs.Count.{list_below};
 ghost use Rattle.rules.specs.Model.{task_count};
 ghost use Rattle.rules.specs.Scheduling.{Partial, earliest_below, first_that_fits};
 ghost use Rattle.model.specs.Jobs.{instance_in};
 ghost use Rattle.model.specs.Layout.{Job as RulesJob, Entries, instance_from, partial_from, Processors, LastBounds};
 ghost use Rattle.starts.specs.Memories.{as_memory};
-ghost use Rattle.starts.specs.Kept.{Kept, KeptBounds};
+ghost use Rattle.starts.specs.Kept.{Kept, StairsBounds};
 ghost use Rattle.selection.specs.Choices.{as_round, ChoiceBounds, OrderBounds, IdleOf, IdleBounds};
 
 use super::trial::{both_colours, earlier};
@@ -15,9 +14,7 @@ use model::job::Job;
 use model::layout;
 use model::layout::Shape;
 use model::trial::Trial;
-use needs::TABLE;
-use needs::table::is_ready;
-use rules::Board;
+use needs::table::Needs;
 use staircase::Staircase;
 use starts::memory::Memory;
 use starts::start::processor_start;
@@ -46,12 +43,12 @@ fn idle_from(shape: Shape, last: &[u64; layout::LAST]) -> ByColour<u64>
 fn try_task(
     memory: Memory,
     job: &Job,
-    needs: &[u64; TABLE],
+    needs: &Needs,
     stairs: &ByColour<Staircase>,
     idle: ByColour<u64>,
     task: usize,
 ) -> Round
-    requires kept_bounds { KeptBounds needs.now stairs.now × IdleBounds idle }
+    requires bounds { StairsBounds stairs.now × IdleBounds idle }
     requires task_lt_tasks { task < job.now.shape.tasks }
     ensures result_value { (Q : Partial) →
         Kept (instance_in job.now) Q needs.now stairs.now →
@@ -59,7 +56,7 @@ fn try_task(
         as_round result ≡ first_that_fits (as_memory memory) (instance_in job.now) Q (task ∷ []) }
     ensures choice_bounds { ChoiceBounds job.now.shape result.choice × (result.trials ≤ 2) }
 {
-    if is_ready(needs, task) {
+    if needs.of(task).ready {
         let choice = both_colours(memory, job, needs, stairs, idle, task);
         return Round { choice, trials: 2 };
     }
@@ -74,11 +71,11 @@ pub fn earliest_round(
     memory: Memory,
     job: &Job,
     last: &[u64; layout::LAST],
-    needs: &[u64; TABLE],
+    needs: &Needs,
     stairs: &ByColour<Staircase>,
 ) -> Round
     requires last_bounds { LastBounds job.now.shape last.now }
-    requires kept_bounds { KeptBounds needs.now stairs.now }
+    requires bounds { StairsBounds stairs.now }
     ensures result_value { (L : Entries) →
         Kept (instance_in job.now) (partial_from job.now.shape L last.now) needs.now stairs.now →
         as_round result ≡ earliest_below (as_memory memory) (instance_in job.now) (partial_from job.now.shape L last.now)
@@ -101,23 +98,23 @@ pub fn first_that_fits(
     memory: Memory,
     job: &Job,
     last: &[u64; layout::LAST],
-    order: &[u64; Board::MAX_TASKS],
-    needs: &[u64; TABLE],
+    order: &[usize],
+    needs: &Needs,
     stairs: &ByColour<Staircase>,
 ) -> Round
     requires last_bounds { LastBounds job.now.shape last.now }
-    requires kept_bounds { KeptBounds needs.now stairs.now }
+    requires bounds { StairsBounds stairs.now }
     requires order_bounds { OrderBounds job.now.shape order.now }
     ensures result_value { (L : Entries) →
         Kept (instance_in job.now) (partial_from job.now.shape L last.now) needs.now stairs.now →
         as_round result ≡ first_that_fits (as_memory memory) (instance_in job.now) (partial_from job.now.shape L last.now)
-        (list_below job.now.shape.tasks (λ p. get_or order.now p 0)) }
+        order.now }
     ensures choice_bounds { ChoiceBounds job.now.shape result.choice × (result.trials ≤ 2 * job.now.shape.tasks) }
 {
     let idle = idle_from(job.shape, last);
     let mut trials: u64 = 0;
-    for i in 0..job.shape.tasks {
-        let round = try_task(memory, job, needs, stairs, idle, order[i] as usize);
+    for task in order {
+        let round = try_task(memory, job, needs, stairs, idle, *task);
         let choice = round.choice;
         trials += round.trials;
         if choice.is_some() {

@@ -7,13 +7,13 @@ ghost use Rattle.model.specs.Jobs.{instance_in};
 ghost use Rattle.model.specs.Layout.{last_start, latest_finish};
 ghost use Rattle.staircase.specs.Steps.{as_option};
 ghost use Rattle.starts.specs.Memories.{as_memory};
-ghost use Rattle.starts.specs.Kept.{Kept, KeptBounds};
+ghost use Rattle.starts.specs.Kept.{Kept, StairsBounds};
 ghost use Rattle.selection.specs.Choices.{as_choice, TrialBounds, ChoiceBounds, IdleOf, IdleBounds};
 
 use model::colour::{ByColour, Colour};
 use model::job::Job;
 use model::trial::Trial;
-use needs::TABLE;
+use needs::table::Needs;
 use staircase::Staircase;
 use starts::memory::Memory;
 use starts::start::earliest_start;
@@ -63,12 +63,12 @@ pub fn earlier(job: &Job, a: Option<Trial>, b: Option<Trial>) -> Option<Trial>
 pub fn both_colours(
     memory: Memory,
     job: &Job,
-    needs: &[u64; TABLE],
+    needs: &Needs,
     stairs: &ByColour<Staircase>,
     idle: ByColour<u64>,
     task: usize,
 ) -> Option<Trial>
-    requires kept_bounds { KeptBounds needs.now stairs.now × IdleBounds idle }
+    requires bounds { StairsBounds stairs.now × IdleBounds idle }
     requires task_lt_tasks { task < job.now.shape.tasks }
     ensures result_value { (Q : Partial) →
         Kept (instance_in job.now) Q needs.now stairs.now →
@@ -77,8 +77,9 @@ pub fn both_colours(
         as_choice result ≡ both_colours (as_memory memory) (instance_in job.now) Q task }
     ensures choice_bounds { ChoiceBounds job.now.shape result }
 {
-    let on_blue = earliest_start(memory, needs, &stairs.blue, idle.blue, task, Colour::Blue);
-    let on_red = earliest_start(memory, needs, &stairs.red, idle.red, task, Colour::Red);
+    let need = needs.of(task);
+    let on_blue = earliest_start(memory, need, &stairs.blue, idle.blue, Colour::Blue);
+    let on_red = earliest_start(memory, need, &stairs.red, idle.red, Colour::Red);
     let first = tried(task, Colour::Blue, on_blue);
     let second = tried(task, Colour::Red, on_red);
     earlier(job, first, second)

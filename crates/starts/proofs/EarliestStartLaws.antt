@@ -15,7 +15,10 @@ use Rattle.rules.proofs.CountLaws.{min-cong}
 use Rattle.model.specs.declared.layout.Shape.{Shape}
 use Rattle.model.specs.declared.colour.Colour.{Colour}
 use Rattle.model.specs.declared.colour.Colour.TheVariants.{Blue, Red}
-use Rattle.model.specs.Colours.{as_colour, by_colour}
+use Rattle.model.specs.Colours.{as_colour, by_colour, own}
+use Rattle.rules.specs.Limits.{max_files}
+use Rattle.needs.specs.declared.table.Need.{Need}
+use Rattle.needs.specs.Needs.{NeedBounds}
 use Rattle.model.specs.Layout.{Job, Entries, instance_from, partial_from, count_in, Processors}
 use Rattle.model.proofs.LayoutLaws.{last-finish-at}
 use Rattle.starts.specs.declared.memory.Memory.{Memory}
@@ -34,6 +37,11 @@ asked-demand e h = rw e h
 
 pub demand-bounds : {n : ℕ} {d x : Demand} → d ≡ x → DemandBounds n x → DemandBounds n d
 demand-bounds e h = rw e h
+
+-- the bounds of the colour's own demand
+pub own-bounds : (c : Colour) {x : Need} → NeedBounds x → DemandBounds max_files (own c x.demand)
+own-bounds Blue b = b.blue
+own-bounds Red b = b.red
 
 -- a bound of what an option holds
 pub bounded : {a : Option ℕ} {x m : ℕ} → a ≡ Some x → IfSome a (λ t. t ≤ m) → x ≤ m

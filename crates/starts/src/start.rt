@@ -1,12 +1,11 @@
 // The earliest start of a task on a colour: the greatest of the starts 1 to 4; of 1 and 2, if the planner is plain.
-ghost use Rattle.std.specs.Prelude.{◌≡◌, ◌≤◌, ◌<◌, IfSome};
-ghost use Rattle.rules.specs.Limits.{max_tasks};
+ghost use Rattle.std.specs.Prelude.{◌≡◌, ◌≤◌, ℕ, IfSome};
 ghost use Rattle.rules.specs.Model.{Instance};
 ghost use Rattle.rules.specs.Scheduling.{Partial, processor_start, earliest_start};
 ghost use Rattle.model.specs.Colours.{as_colour};
 ghost use Rattle.model.specs.Layout.{Job, Entries, instance_from, partial_from, Processors, LastBounds, last_tick, last_start};
 ghost use Rattle.staircase.specs.Steps.{as_option};
-ghost use Rattle.needs.specs.Table.{NeedsBounds};
+ghost use Rattle.needs.specs.Needs.{NeedBounds};
 ghost use Rattle.starts.specs.Memories.{as_memory};
 ghost use Rattle.starts.specs.Kept.{TicksWithin, Tried};
 
@@ -14,7 +13,7 @@ use super::memory::{Memory, memory_start};
 use model::colour::{Colour, by_colour};
 use model::layout;
 use model::layout::Shape;
-use needs::{TABLE, table};
+use needs::table::Need;
 use staircase::Staircase;
 
 // Start 1: the least last finish of the colour's processors.
@@ -35,24 +34,21 @@ pub fn processor_start(shape: Shape, last: &[u64; layout::LAST], colour: Colour)
     least
 }
 
-// The earliest start of a ready task on the colour, if the colour fits; `idle` is start 1, the staircase is the colour's own.
+// The earliest start of a ready task with this need on the colour, if the colour fits; `idle` is start 1, the staircase is the colour's own.
 pub fn earliest_start(
     memory: Memory,
-    needs: &[u64; TABLE],
+    need: &Need,
     staircase: &Staircase,
     idle: u64,
-    task: usize,
     colour: Colour,
 ) -> Option<u64>
-    requires needs_bounds { NeedsBounds needs.now × TicksWithin staircase.now }
-    requires task_lt_max_tasks { (task < max_tasks) × (idle ≤ last_tick) }
-    ensures result_value { (I : Instance) (Q : Partial) → Tried I Q needs.now staircase.now idle task colour →
-        as_option result ≡ earliest_start (as_memory memory) I Q task (as_colour colour) }
+    requires bounds { NeedBounds need.now × TicksWithin staircase.now × (idle ≤ last_tick) }
+    ensures result_value { (I : Instance) (Q : Partial) (i : ℕ) → Tried I Q need.now staircase.now idle i colour →
+        as_option result ≡ earliest_start (as_memory memory) I Q i (as_colour colour) }
     ensures result_bound { IfSome result (λ t. t ≤ last_start) }
 {
-    let demand = table::demand(needs, task, colour);
-    let room = table::room(needs, task);
+    let demand = *need.demand.get(colour);
     let ready = idle.max(demand.arrival);
-    let asked = memory_start(memory, staircase, demand, room)?;
+    let asked = memory_start(memory, staircase, demand, need.room)?;
     Some(ready.max(asked))
 }

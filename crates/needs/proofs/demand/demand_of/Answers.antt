@@ -1,55 +1,59 @@
 use native.Mathlib.Omega.{arith}
+use Prim.Native.Nat.{◌<◌}
 use Rattle.model.specs.Colours.{as_colour}
 use Rattle.model.specs.Layout.{job_of, entries_of}
-use Rattle.needs.proofs.WalkLaws.{walk_first, walk-next}
+use Rattle.links.proofs.WalkLaws.{next-at, next-in, come, ended}
 use Rattle.needs.proofs.DemandLaws.{demand-first, demand-skip, demand-all, demand-within}
 use Rattle.needs.proofs.demand.demand_of.Goals as goal
 
-pub bounds-first-task : goal.bounds-first-task
-bounds-first-task c = omega (arith, c.requires.in_bounds.job.tasks)
-
-pub loop-k-init : goal.loop-k-init
-loop-k-init c =
-    let a = c.args in
-    let next = walk_first c.requires.in_bounds.job c.requires.chained a.task c.requires.task_lt_tasks in (
-      next.within,
-      next.holds,
-      record { incoming = omega arith; arrival = omega arith; longest = omega arith },
-      demand-first a.shape (job_of a.job.now) (entries_of a.schedule.now) a.task (as_colour a.colour) next,
-    )
+pub loop-at-init : goal.loop-at-init
+loop-at-init c =
+    let j = c.args.links.now.job in
+    let J = job_of j.numbers.now in
+    let next = next-in j.shape J c.first-at.ensures in record {
+      at = next-at next;
+      within = next.next.within;
+      bounds = rw c.new-demand.ensures (record { incoming = omega arith; arrival = omega arith; longest = omega arith });
+      below = rw c.new-demand.ensures (demand-first j.shape J (entries_of c.args.schedule.now) c.args.task (as_colour c.args.colour) next.next);
+    }
 
 pub with_file-demand-requires : goal.with_file-demand-requires
 with_file-demand-requires c =
-    let inv = c.loop-k.invariant in record {
-      in_bounds = c.requires.in_bounds;
-      k_lt_files = omega arith;
-      demand_below = inv.3;
-      demand_bounds = inv.2;
+    let n = c.args.links.now.job.shape.files in
+    let k = c.in-Some.k in
+    let now = come n c.in-Some.is in record {
+      k_lt_files = c.loop-at.invariant.at.exists k c.in-Some.is;
+      read = c.loop-at.invariant.at.holds k c.in-Some.is;
+      demand_below = rw now at c.loop-at.invariant.below;
+      demand_bounds = rw now at c.loop-at.invariant.bounds;
     }
 
-pub bounds-next-k : goal.bounds-next-k
-bounds-next-k c = omega (arith, c.requires.in_bounds.job.files)
+pub loop-at-smaller : goal.loop-at-smaller
+loop-at-smaller c =
+    let j = c.args.links.now.job in
+    let k = c.in-Some.k in
+    let h : k < j.shape.files = c.loop-at.invariant.at.exists k c.in-Some.is in
+    let next = next-in j.shape (job_of j.numbers.now) (c.next-at.ensures c.args.task (c.loop-at.invariant.at.holds k c.in-Some.is)) in
+    omega (arith, come j.shape.files c.in-Some.is, next.next.from, next.next.within)
 
-pub loop-k-smaller : goal.loop-k-smaller
-loop-k-smaller c =
-    let next = walk-next c.requires.in_bounds.job c.requires.chained c.args.task c.loop-k-test.true (c.loop-k.invariant.1 c.loop-k-test.true) in
-    omega (arith, next.from, next.within)
-
-pub loop-k-preserved : goal.loop-k-preserved
-loop-k-preserved c =
-    let a = c.args in
+pub loop-at-preserved : goal.loop-at-preserved
+loop-at-preserved c =
+    let j = c.args.links.now.job in
+    let J = job_of j.numbers.now in
+    let k = c.in-Some.k in
     let e = c.with_file-demand.ensures in
-    let next = walk-next c.requires.in_bounds.job c.requires.chained a.task c.loop-k-test.true (c.loop-k.invariant.1 c.loop-k-test.true) in (
-      next.within,
-      next.holds,
-      demand-within (omega (arith, next.from)) e.demand_bounds_2,
-      demand-skip a.shape (job_of a.job.now) (entries_of a.schedule.now) a.task (as_colour a.colour) next e.demand_below_2,
-    )
+    let next = next-in j.shape J (c.next-at.ensures c.args.task (c.loop-at.invariant.at.holds k c.in-Some.is)) in record {
+      at = next-at next;
+      within = next.next.within;
+      bounds = demand-within (omega (arith, next.next.from)) e.demand_bounds_2;
+      below = demand-skip j.shape J (entries_of c.args.schedule.now) c.args.task (as_colour c.args.colour) next.next e.demand_below_2;
+    }
 
 pub returns : goal.returns
 returns c =
-    let a = c.args in
-    let inv = c.loop-k.invariant in record {
-      demand_of = demand-all a.shape (job_of a.job.now) (entries_of a.schedule.now) a.task (as_colour a.colour) inv.3 (omega arith);
-      demand_bounds = demand-within (omega (arith, c.requires.in_bounds.job.files)) inv.2;
+    let j = c.args.links.now.job in
+    let inv = c.loop-at.invariant in record {
+      demand_of = demand-all j.shape (job_of j.numbers.now) (entries_of c.args.schedule.now) c.args.task (as_colour c.args.colour) inv.below
+          (ended j.shape.files c.in_default.is);
+      demand_bounds = demand-within (omega (arith, inv.within, j.in_bounds.files)) inv.bounds;
     }

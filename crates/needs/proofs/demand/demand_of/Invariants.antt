@@ -1,17 +1,23 @@
--- `demand_of` meets its contract. The invariant: k is on the chain, or its end, with the demand of the files below k.
-use Prim.Native.Nat.{◌≤◌, ◌<◌, ◌-◌}
-use mathlib.Core.Bool.{true}
-use mathlib.Core.Path.{◌≡◌}
+-- The walk has come to a file of the chain, or to its end, with the demand of the files below it.
+use Prim.Native.Nat.{◌≤◌, ◌-◌}
 use Rattle.rules.specs.Scheduling.{reads}
 use Rattle.model.specs.Colours.{as_colour}
-use Rattle.model.specs.Layout.{instance_of, schedule_of}
+use Rattle.model.specs.Jobs.{instance_in}
+use Rattle.model.specs.Layout.{schedule_of}
+use Rattle.links.specs.Chains.{index_or}
+use Rattle.links.proofs.WalkLaws.{At}
 use Rattle.needs.specs.Demands.{DemandBelow, DemandBounds}
 use Rattle.needs.proofs.demand.demand_of.Given as goal
 
-abbrev pub invariant-loop-k : goal.invariant-loop-k
-invariant-loop-k l =
-    (l.k ≤ l.shape.files) × (l.k < l.shape.files → reads (instance_of l.shape l.job) l.task l.k ≡ true) × DemandBounds l.k l.demand
-    × DemandBelow (instance_of l.shape l.job) (schedule_of l.shape l.schedule) l.task (as_colour l.colour) l.k l.demand
+abbrev pub invariant-loop-at : goal.invariant-loop-at
+invariant-loop-at l =
+    let n = l.links.job.shape.files in
+    let I = instance_in l.links.job in record {
+      at : At n (reads I l.task) l.at;
+      within : index_or n l.at ≤ n;
+      bounds : DemandBounds (index_or n l.at) l.demand;
+      below : DemandBelow I (schedule_of l.links.job.shape l.schedule) l.task (as_colour l.colour) (index_or n l.at) l.demand;
+    }
 
-abbrev pub decreases-loop-k : goal.decreases-loop-k
-decreases-loop-k l = l.shape.files - l.k
+abbrev pub decreases-loop-at : goal.decreases-loop-at
+decreases-loop-at l = l.links.job.shape.files - index_or l.links.job.shape.files l.at

@@ -1,54 +1,53 @@
 use mathlib.Core.Bool.{not}
 use mathlib.Core.Path.{ap}
-use native.Mathlib.Omega.{arith}
-use Rattle.needs.proofs.WalkLaws.{walk_first, walk-next}
+use Prim.Native.Nat.{◌<◌}
+use Rattle.model.specs.Layout.{job_of, entries_of}
+use Rattle.links.proofs.WalkLaws.{next-at, next-in, come, ended}
 use Rattle.needs.proofs.ReadinessLaws.{missing-first, missing_at, missing-skip, ready-placed, ready-missing, ready-found}
 use Rattle.needs.proofs.readiness.ready.Goals as goal
 
-pub placed-requires : goal.placed-requires
-placed-requires c = omega (arith, c.requires.in_bounds.job.tasks)
+pub returns-then-is_placed : goal.returns-then-is_placed
+returns-then-is_placed c =
+    let j = c.args.links.now.job in
+    ready-placed j.shape (job_of j.numbers.now) (entries_of c.args.schedule.now) c.args.task c.requires.task_lt_tasks c.is_placed.ensures c.if-is_placed.true
 
-pub returns-then-placed : goal.returns-then-placed
-returns-then-placed c = ready-placed c.requires.in_bounds c.args.task c.requires.task_lt_tasks c.placed.ensures c.if-placed.true
+pub loop-at-init : goal.loop-at-init
+loop-at-init c =
+    let j = c.args.links.now.job in
+    let J = job_of j.numbers.now in
+    let next = next-in j.shape J c.first-at.ensures in record {
+      at = next-at next;
+      within = next.next.within;
+      none = missing-first j.shape J (entries_of c.args.schedule.now) c.args.task next.next;
+    }
 
-pub bounds-first-task : goal.bounds-first-task
-bounds-first-task c = omega (arith, c.requires.in_bounds.job.tasks)
+pub returns-then-not-is_placed : goal.returns-then-not-is_placed
+returns-then-not-is_placed c =
+    let j = c.args.links.now.job in
+    let J = job_of j.numbers.now in
+    let L = entries_of c.args.schedule.now in
+    let k = c.in-Some.k in
+    let h : k < j.shape.files = c.loop-at.invariant.at.exists k c.in-Some.is in
+    ready-missing j.shape J L c.args.task c.requires.task_lt_tasks c.is_placed.ensures h
+    (missing_at j.shape J L c.args.task h (c.loop-at.invariant.at.holds k c.in-Some.is) c.maker.ensures.value c.is_placed-in-Some.ensures) (ap not c.if-not-is_placed.true)
 
-pub loop-k-init : goal.loop-k-init
-loop-k-init c =
-    let next = walk_first c.requires.in_bounds.job c.requires.chained c.args.task c.requires.task_lt_tasks in
-    (next.within, next.holds, missing-first c.requires.in_bounds c.args.task next)
-
-pub placed-requires-in-loop-k : goal.placed-requires-in-loop-k
-placed-requires-in-loop-k c = omega (arith, c.requires.in_bounds.job.tasks, c.maker-maker.ensures.upper_bound)
-
-pub returns-then-not-placed : goal.returns-then-not-placed
-returns-then-not-placed c =
-    let h = c.loop-k-test.true in
-    ready-missing c.requires.in_bounds c.args.task c.requires.task_lt_tasks c.placed.ensures h
-    (missing_at c.requires.in_bounds c.args.task h (c.loop-k.invariant.1 h) c.maker-maker.ensures.value c.placed-in-loop-k.ensures) (ap not c.if-not-placed.true)
-
-pub bounds-next-k : goal.bounds-next-k
-bounds-next-k c = omega (arith, c.requires.in_bounds.job.files)
-
-pub loop-k-smaller : goal.loop-k-smaller
-loop-k-smaller c =
-    let h = c.loop-k-test.true in
-    let next = walk-next c.requires.in_bounds.job c.requires.chained c.args.task h (c.loop-k.invariant.1 h) in
-    omega (arith, next.from, next.within)
-
-pub loop-k-preserved : goal.loop-k-preserved
-loop-k-preserved c =
-    let inv = c.loop-k.invariant in
-    let h = c.loop-k-test.true in
-    let next = walk-next c.requires.in_bounds.job c.requires.chained c.args.task h (inv.1 h) in (
-      next.within,
-      next.holds,
-      missing-skip c.requires.in_bounds c.args.task h (inv.1 h) c.maker-maker.ensures.value c.placed-in-loop-k.ensures next inv.2
-          (ap not c.if-not-placed.false),
-    )
+pub loop-at-preserved : goal.loop-at-preserved
+loop-at-preserved c =
+    let j = c.args.links.now.job in
+    let J = job_of j.numbers.now in
+    let L = entries_of c.args.schedule.now in
+    let k = c.in-Some.k in
+    let h : k < j.shape.files = c.loop-at.invariant.at.exists k c.in-Some.is in
+    let here = c.loop-at.invariant.at.holds k c.in-Some.is in
+    let next = next-in j.shape J (c.next-at.ensures c.args.task here) in record {
+      at = next-at next;
+      within = next.next.within;
+      none = missing-skip j.shape J L c.args.task h here c.maker.ensures.value c.is_placed-in-Some.ensures next.next
+          (rw (come j.shape.files c.in-Some.is) at c.loop-at.invariant.none) (ap not c.if-not-is_placed.false);
+    }
 
 pub returns : goal.returns
 returns c =
-    ready-found c.requires.in_bounds c.args.task c.requires.task_lt_tasks c.placed.ensures
-    c.if-placed.false {n = c.loop-k.k} (omega arith) c.loop-k.invariant.2
+    let j = c.args.links.now.job in
+    ready-found j.shape (job_of j.numbers.now) (entries_of c.args.schedule.now) c.args.task c.requires.task_lt_tasks c.is_placed.ensures
+    c.if-is_placed.false (ended j.shape.files c.in_default.is) c.loop-at.invariant.none

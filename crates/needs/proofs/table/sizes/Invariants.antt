@@ -1,12 +1,23 @@
--- `sizes` meets its contract. The invariant: k is on the chain, or its end, and the sum is that of the files below k.
+-- The walk has come to a file of the chain, or to its end, and the sum is that of the files below it.
 use Prim.Native.Nat.{◌≤◌, ◌*◌, ◌-◌}
+use mathlib.Core.Path.{◌≡◌}
+use Rattle.rules.specs.Count.{sum_where}
 use Rattle.rules.specs.Limits.{file_sizes}
-use Rattle.model.specs.Layout.{job_of}
-use Rattle.needs.proofs.SizeLaws.{SizesBelow}
+use Rattle.rules.specs.Model.{size_at}
+use Rattle.model.specs.Jobs.{instance_in}
+use Rattle.links.specs.Chains.{has_at, index_or}
+use Rattle.links.proofs.WalkLaws.{At}
 use Rattle.needs.proofs.table.sizes.Given as goal
 
-abbrev pub invariant-loop-k : goal.invariant-loop-k
-invariant-loop-k l = (l.k ≤ l.shape.files) × (l.sum ≤ file_sizes.most * l.k) × SizesBelow l.shape (job_of l.job) l.first l.next l.task l.k l.sum
+abbrev pub invariant-loop-at : goal.invariant-loop-at
+invariant-loop-at l =
+    let n = l.links.job.shape.files in
+    let has = has_at l.end (instance_in l.links.job) l.task in record {
+      at : At n has l.at;
+      within : index_or n l.at ≤ n;
+      most : l.sum ≤ file_sizes.most * index_or n l.at;
+      sum : l.sum ≡ sum_where (index_or n l.at) has (size_at (instance_in l.links.job));
+    }
 
-abbrev pub decreases-loop-k : goal.decreases-loop-k
-decreases-loop-k l = l.shape.files - l.k
+abbrev pub decreases-loop-at : goal.decreases-loop-at
+decreases-loop-at l = l.links.job.shape.files - index_or l.links.job.shape.files l.at

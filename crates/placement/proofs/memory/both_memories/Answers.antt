@@ -6,9 +6,8 @@ use Rattle.placement.proofs.memory.both_memories.Goals as goal
 pub occupy-requires : goal.occupy-requires
 occupy-requires c =
     let e = same-blue c.in-Blue.is in
-    let own = pending-is (in-own c.args.job.now c.args.schedule.now c.args.placing.trial c.requires.sizes_of blue e.0) c.requires.pending in record {
+    let own = pending-is (in-own c.args.links.now.job c.args.schedule.now c.args.placing.trial c.requires.sizes_of blue e.0) c.requires.pending in record {
       trial = c.requires.trial;
-      chained = c.requires.chained;
       sizes_of = c.requires.sizes_of;
       pending = own;
     }
@@ -16,14 +15,13 @@ occupy-requires c =
 pub vacate-requires : goal.vacate-requires
 vacate-requires c =
     let e = same-blue c.in-Blue.is in
-    pending-is (in-other c.args.job.now c.args.schedule.now c.args.placing.trial c.requires.sizes_of red e.1) c.requires.pending_2
+    pending-is (in-other c.args.links.now.job c.args.schedule.now c.args.placing.trial c.requires.sizes_of red e.1) c.requires.pending_2
 
 pub occupy-requires-in-Red : goal.occupy-requires-in-Red
 occupy-requires-in-Red c =
     let e = same-red c.in-Red.is in
-    let own = pending-is (in-own c.args.job.now c.args.schedule.now c.args.placing.trial c.requires.sizes_of red e.1) c.requires.pending_2 in record {
+    let own = pending-is (in-own c.args.links.now.job c.args.schedule.now c.args.placing.trial c.requires.sizes_of red e.1) c.requires.pending_2 in record {
       trial = c.requires.trial;
-      chained = c.requires.chained;
       sizes_of = c.requires.sizes_of;
       pending = own;
     }
@@ -31,20 +29,20 @@ occupy-requires-in-Red c =
 pub vacate-requires-in-Red : goal.vacate-requires-in-Red
 vacate-requires-in-Red c =
     let e = same-red c.in-Red.is in
-    pending-is (in-other c.args.job.now c.args.schedule.now c.args.placing.trial c.requires.sizes_of blue e.0) c.requires.pending
+    pending-is (in-other c.args.links.now.job c.args.schedule.now c.args.placing.trial c.requires.sizes_of blue e.0) c.requires.pending
 
 pub returns-in-Blue : goal.returns-in-Blue
 returns-in-Blue c =
     let e = same-blue c.in-Blue.is in record {
-      made = made-is (in-own c.args.job.now c.args.schedule.now c.args.placing.trial c.requires.sizes_of blue e.0)
+      made = made-is (in-own c.args.links.now.job c.args.schedule.now c.args.placing.trial c.requires.sizes_of blue e.0)
           c.occupy.ensures;
-      made_2 = made-is (in-other c.args.job.now c.args.schedule.now c.args.placing.trial c.requires.sizes_of red e.1) c.vacate.ensures;
+      made_2 = made-is (in-other c.args.links.now.job c.args.schedule.now c.args.placing.trial c.requires.sizes_of red e.1) c.vacate.ensures;
     }
 
 pub returns-in-Red : goal.returns-in-Red
 returns-in-Red c =
     let e = same-red c.in-Red.is in record {
-      made = made-is (in-other c.args.job.now c.args.schedule.now c.args.placing.trial c.requires.sizes_of blue e.0) c.vacate-in-Red.ensures;
-      made_2 = made-is (in-own c.args.job.now c.args.schedule.now c.args.placing.trial c.requires.sizes_of red e.1)
+      made = made-is (in-other c.args.links.now.job c.args.schedule.now c.args.placing.trial c.requires.sizes_of blue e.0) c.vacate-in-Red.ensures;
+      made_2 = made-is (in-own c.args.links.now.job c.args.schedule.now c.args.placing.trial c.requires.sizes_of red e.1)
           c.occupy-in-Red.ensures;
     }

@@ -1,46 +1,45 @@
-use mathlib.Core.Path.{◌≡◌}
 use native.Mathlib.Omega.{arith}
+use Prim.Native.Nat.{◌<◌}
 use Rattle.model.specs.Layout.{job_of}
-use Rattle.model.proofs.LayoutLaws.{task-count, file-count}
+use Rattle.links.proofs.WalkLaws.{next-at, next-in, come, ended}
 use Rattle.placement.proofs.MemoryLaws.{walk-begin, walk-requires, walk_turn}
 use Rattle.placement.proofs.memory.move_all_in.Goals as goal
 
-pub loop-k-init : goal.loop-k-init
-loop-k-init c =
-    let b = c.args.job.now.shape in
-    let J = job_of c.args.job.now.numbers.now in
-    let x = c.args.trial in
-    let head = c.requires.chained.begins x.task (omega (arith, task-count b J, c.requires.i_lt_tasks)) in (
-      omega (arith, head.within, file-count b J),
-      λ l. head.holds (omega (arith, file-count b J)),
-      walk-begin c.args.job.now c.args.schedule.now x head,
-    )
+pub loop-at-init : goal.loop-at-init
+loop-at-init c =
+    let j = c.args.links.now.job in
+    let next = next-in j.shape (job_of j.numbers.now) c.first-at.ensures in record {
+      at = next-at next;
+      within = next.next.within;
+      made = walk-begin j c.args.schedule.now c.args.trial next.next;
+    }
 
 pub move_in-requires : goal.move_in-requires
 move_in-requires c =
-    let l = c.loop-k-test.true in record {
-      k_lt_files = l;
-      pending = walk-requires c.args.job.now c.args.schedule.now c.args.trial c.loop-k.invariant.2 l c.requires.pending;
+    let j = c.args.links.now.job in
+    let k = c.in-Some.k in
+    let h : k < j.shape.files = c.loop-at.invariant.at.exists k c.in-Some.is in record {
+      k_lt_files = h;
+      pending = walk-requires j c.args.schedule.now c.args.trial (rw (come j.shape.files c.in-Some.is) at c.loop-at.invariant.made) h c.requires.pending;
     }
 
-pub loop-k-smaller : goal.loop-k-smaller
-loop-k-smaller c =
-    let l = c.loop-k-test.true in
-    let count = file-count c.args.job.now.shape (job_of c.args.job.now.numbers.now) in
-    let behind = c.requires.chained.goes_on c.args.trial.task c.loop-k.k (omega (arith, count)) (c.loop-k.invariant.1 l) in
-    omega (arith, behind.from)
+pub loop-at-smaller : goal.loop-at-smaller
+loop-at-smaller c =
+    let j = c.args.links.now.job in
+    let k = c.in-Some.k in
+    let h : k < j.shape.files = c.loop-at.invariant.at.exists k c.in-Some.is in
+    let next = next-in j.shape (job_of j.numbers.now) (c.next-at.ensures c.args.trial.task (c.loop-at.invariant.at.holds k c.in-Some.is)) in
+    omega (arith, come j.shape.files c.in-Some.is, next.next.from, next.next.within)
 
-pub loop-k-preserved : goal.loop-k-preserved
-loop-k-preserved c =
-    let l = c.loop-k-test.true in
-    let count = file-count c.args.job.now.shape (job_of c.args.job.now.numbers.now) in
-    let behind = c.requires.chained.goes_on c.args.trial.task c.loop-k.k (omega (arith, count)) (c.loop-k.invariant.1 l) in (
-      omega (arith, behind.within, count),
-      λ m. behind.holds (omega (arith, count)),
-      walk_turn c.args.job.now c.args.schedule.now c.args.trial c.loop-k.invariant.2 behind c.move_in.ensures,
-    )
+pub loop-at-preserved : goal.loop-at-preserved
+loop-at-preserved c =
+    let j = c.args.links.now.job in
+    let k = c.in-Some.k in
+    let next = next-in j.shape (job_of j.numbers.now) (c.next-at.ensures c.args.trial.task (c.loop-at.invariant.at.holds k c.in-Some.is)) in record {
+      at = next-at next;
+      within = next.next.within;
+      made = walk_turn j c.args.schedule.now c.args.trial (rw (come j.shape.files c.in-Some.is) at c.loop-at.invariant.made) next.next c.move_in.ensures;
+    }
 
 pub returns : goal.returns
-returns c =
-    let e : c.loop-k.k ≡ c.args.job.now.shape.files = omega (arith, c.loop-k.invariant.0, c.loop-k-test.false) in
-    rw e at c.loop-k.invariant.2
+returns c = rw (ended c.args.links.now.job.shape.files c.in_default.is) at c.loop-at.invariant.made

@@ -1,17 +1,20 @@
--- `move_all_in` meets its contract. The invariant: the files below k have moved in, and the task reads file k.
-use Prim.Native.Nat.{◌-◌, ◌<◌, ◌≤◌}
-use mathlib.Core.Bool.{true}
-use mathlib.Core.Path.{◌≡◌}
+-- The walk has come to a file that the task reads, or to its end, and the files below it have moved in.
+use Prim.Native.Nat.{◌-◌, ◌≤◌}
 use Rattle.rules.specs.Scheduling.{reads}
 use Rattle.model.specs.Jobs.{instance_in}
+use Rattle.links.specs.Chains.{index_or}
+use Rattle.links.proofs.WalkLaws.{At}
 use Rattle.staircase.specs.Stairs.{Made}
 use Rattle.placement.specs.Memory.{moves_of}
 use Rattle.placement.proofs.memory.move_all_in.Given as goal
 
-abbrev pub invariant-loop-k : goal.invariant-loop-k
-invariant-loop-k l =
-    (l.k ≤ l.job.shape.files) × (l.k < l.job.shape.files → reads (instance_in l.job) l.trial.task l.k ≡ true)
-    × Made (moves_of l.job l.schedule l.trial 0 l.k) l.initial.staircase l.staircase
+abbrev pub invariant-loop-at : goal.invariant-loop-at
+invariant-loop-at l =
+    let n = l.links.job.shape.files in record {
+      at : At n (reads (instance_in l.links.job) l.trial.task) l.at;
+      within : index_or n l.at ≤ n;
+      made : Made (moves_of l.links.job l.schedule l.trial 0 (index_or n l.at)) l.initial.staircase l.staircase;
+    }
 
-abbrev pub decreases-loop-k : goal.decreases-loop-k
-decreases-loop-k l = l.job.shape.files - l.k
+abbrev pub decreases-loop-at : goal.decreases-loop-at
+decreases-loop-at l = l.links.job.shape.files - index_or l.links.job.shape.files l.at

@@ -1,17 +1,20 @@
--- `set_moves` meets its contract. The invariant: the move starts of the files below k are set, and the task reads file k.
-use Prim.Native.Nat.{◌-◌, ◌<◌, ◌≤◌}
-use mathlib.Core.Bool.{true}
-use mathlib.Core.Path.{◌≡◌}
+-- The walk has come to a file that the task reads, or to its end, and the move starts of the files below it are set.
+use Prim.Native.Nat.{◌-◌, ◌≤◌}
 use Rattle.rules.specs.Scheduling.{reads}
 use Rattle.model.specs.Colours.{as_colour}
 use Rattle.model.specs.Jobs.{instance_in}
+use Rattle.links.specs.Chains.{index_or}
+use Rattle.links.proofs.WalkLaws.{At}
 use Rattle.placement.proofs.MoveLaws.{MovesTo}
 use Rattle.placement.proofs.moves.set_moves.Given as goal
 
-abbrev pub invariant-loop-k : goal.invariant-loop-k
-invariant-loop-k l =
-    (l.k ≤ l.job.shape.files) × (l.k < l.job.shape.files → reads (instance_in l.job) l.trial.task l.k ≡ true)
-    × MovesTo l.job.in_bounds l.initial.schedule l.trial.task (as_colour l.trial.colour) l.trial.start l.schedule l.k
+abbrev pub invariant-loop-at : goal.invariant-loop-at
+invariant-loop-at l =
+    let n = l.links.job.shape.files in record {
+      at : At n (reads (instance_in l.links.job) l.trial.task) l.at;
+      within : index_or n l.at ≤ n;
+      moves : MovesTo l.links.job.in_bounds l.initial.schedule l.trial.task (as_colour l.trial.colour) l.trial.start l.schedule (index_or n l.at);
+    }
 
-abbrev pub decreases-loop-k : goal.decreases-loop-k
-decreases-loop-k l = l.job.shape.files - l.k
+abbrev pub decreases-loop-at : goal.decreases-loop-at
+decreases-loop-at l = l.links.job.shape.files - index_or l.links.job.shape.files l.at

@@ -1,5 +1,5 @@
 -- `chosen_processor` meets its contract. The invariant: none of the processors passed is the one.
-use Prim.Native.Nat.{ℕ, ◌≤◌, ◌<◌, ◌-◌}
+use Prim.Native.Nat.{ℕ, ◌<◌}
 use mathlib.Core.Bool.{false}
 use mathlib.Core.Path.{◌≡◌}
 use Rattle.model.specs.Layout.{count_in}
@@ -8,7 +8,4 @@ use Rattle.placement.proofs.processor.chosen_processor.Given as goal
 
 abbrev pub invariant-loop-p : goal.invariant-loop-p
 invariant-loop-p l =
-    (l.p ≤ l.n) × (l.n ≡ count_in l.shape l.colour) × (l.latest ≡ latest_in l.shape l.last l.colour l.start) × ((q : ℕ) → q < l.p → latest_free_in l.shape l.last l.colour l.start q ≡ false)
-
-abbrev pub decreases-loop-p : goal.decreases-loop-p
-decreases-loop-p l = l.n - l.p
+    (l.n ≡ count_in l.shape l.colour) × (l.latest ≡ latest_in l.shape l.last l.colour l.start) × ((q : ℕ) → q < l.p → latest_free_in l.shape l.last l.colour l.start q ≡ false)

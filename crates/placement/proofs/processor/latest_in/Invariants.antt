@@ -1,5 +1,4 @@
 -- `latest_in` meets its contract. The invariant: the latest of the processors passed.
-use Prim.Native.Nat.{◌≤◌, ◌-◌}
 use mathlib.Core.Path.{◌≡◌}
 use Rattle.rules.specs.Count.{max_where}
 use Rattle.model.specs.Layout.{count_in}
@@ -9,7 +8,4 @@ use Rattle.placement.proofs.processor.latest_in.Given as goal
 
 abbrev pub invariant-loop-p : goal.invariant-loop-p
 invariant-loop-p l =
-    (l.p ≤ l.n) × (l.n ≡ count_in l.shape l.colour) × (l.most ≡ max_where l.p (free_in l.shape l.last l.colour l.start) (last_in l.shape l.last l.colour))
-
-abbrev pub decreases-loop-p : goal.decreases-loop-p
-decreases-loop-p l = l.n - l.p
+    (l.n ≡ count_in l.shape l.colour) × (l.most ≡ max_where l.p (free_in l.shape l.last l.colour l.start) (last_in l.shape l.last l.colour))

@@ -12,16 +12,15 @@ use Rattle.placement.proofs.task.place.Goals as goal
 
 pub both_memories-requires : goal.both_memories-requires
 both_memories-requires c =
-    let b = c.args.job.now.shape in
-    let I = instance_in c.args.job.now in
+    let b = c.args.links.now.job.shape in
+    let I = instance_in c.args.links.now.job in
     let Q = partial_of b c.args.schedule.now c.args.last.now in
     let W = c.requires.well_formed in
     let T = c.requires.trial.0 in
     let i = c.args.trial.task in
     let x = as_colour c.args.trial.colour in
     let t = c.args.trial.start in record {
-      trial = (omega (arith, T.exists, task-count b (job_of c.args.job.now.numbers.now)), c.requires.trial.1);
-      chained = c.requires.chained;
+      trial = (omega (arith, T.exists, task-count b (job_of c.args.links.now.job.numbers.now)), c.requires.trial.1);
       sizes_of = c.requires.sizes_of;
       pending = pending-placing I W Q c.requires.placed i x t T blue c.requires.holds_stairs;
       pending_2 = pending-placing I W Q c.requires.placed i x t T red c.requires.holds_stairs_2;
@@ -29,20 +28,19 @@ both_memories-requires c =
 
 pub assign-requires : goal.assign-requires
 assign-requires c =
-    let b = c.args.job.now.shape in
+    let b = c.args.links.now.job.shape in
     let Q = partial_of b c.args.schedule.now c.args.last.now in
     let p = c.requires.trial in
-    let st = starts aware (instance_in c.args.job.now) Q c.args.trial.task (as_colour c.args.trial.colour) c.args.trial.start p.0.earliest in record {
-      chained = c.requires.chained;
+    let st = starts aware (instance_in c.args.links.now.job) Q c.args.trial.task (as_colour c.args.trial.colour) c.args.trial.start p.0.earliest in record {
       schedule_len = c.requires.schedule_len;
-      i_lt_tasks = (omega (arith, p.0.exists, task-count b (job_of c.args.job.now.numbers.now)), p.1);
+      i_lt_tasks = (omega (arith, p.0.exists, task-count b (job_of c.args.links.now.job.numbers.now)), p.1);
       colour_bound = omega (arith, st.start);
     }
 
 pub returns : goal.returns
 returns c =
-    let I = instance_in c.args.job.now in
-    let Q = partial_of c.args.job.now.shape c.args.schedule.now c.args.last.now in
+    let I = instance_in c.args.links.now.job in
+    let Q = partial_of c.args.links.now.job.shape c.args.schedule.now c.args.last.now in
     let W = c.requires.well_formed in
     let T = c.requires.trial.0 in
     let i = c.args.trial.task in

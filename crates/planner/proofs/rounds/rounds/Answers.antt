@@ -9,32 +9,32 @@ use Rattle.staircase.proofs.StairsLaws.{holds-start}
 use Rattle.placement.proofs.PlaceLaws.{empty-from}
 use Rattle.planner.proofs.RunLaws.{chosen-bounds}
 use Rattle.planner.specs.Outcomes.{as_planner}
-use Rattle.planner.proofs.RunLaws.{planning-start, planning-last, planning-numbers, planning-stuck, planning-trial, planning-next}
+use Rattle.planner.proofs.RunLaws.{planning-start, planning-last, planning-stairs, planning-stuck, planning-trial, planning-next}
 use Rattle.planner.proofs.RunLaws.{planning-done, planning-complete, planning-free}
 use Rattle.planner.proofs.rounds.rounds.Goals as goal
 
 pub loop-placed-init : goal.loop-placed-init
 loop-placed-init c =
     let a = c.args in
-    let J = job_of a.job.now.numbers.now in
+    let J = job_of a.links.now.job.numbers.now in
     let W = c.requires.well_formed.0 in
     let x = c.new.ensures in
     let y = c.new-2.ensures in (
       rw c.requires.schedule_value (refl, refl),
       refl,
-      planning-start (as_planner a.rule) a.job.now.shape J W c.requires.well_formed.1 _ _ _
-          (rw c.requires.schedule_value (empty-from a.job.now.shape J last_length))
-          c.requires.needs.0 c.requires.needs.1
-          (holds-start W Rules.blue _ (x ∙ ap start_steps (sym (limit-of a.job.now.shape J Blue))))
-          (holds-start W Rules.red _ (y ∙ ap start_steps (sym (limit-of a.job.now.shape J Red)))),
+      planning-start (as_planner a.rule) a.links.now.job.shape J W c.requires.well_formed.1 _ _ _
+          (rw c.requires.schedule_value (empty-from a.links.now.job.shape J last_length))
+          c.requires.needs
+          (holds-start W Rules.blue _ (x ∙ ap start_steps (sym (limit-of a.links.now.job.shape J Blue))))
+          (holds-start W Rules.red _ (y ∙ ap start_steps (sym (limit-of a.links.now.job.shape J Red)))),
     )
 
 pub round-found-requires : goal.round-found-requires
 round-found-requires c =
     let a = c.args in
     let p = c.loop-placed.invariant.2 in record {
-      last_bounds = planning-last (as_planner a.rule) a.job.now.shape (job_of a.job.now.numbers.now) c.requires.well_formed.0 c.requires.well_formed.1 p;
-      kept_bounds = planning-numbers (as_planner a.rule) a.job.now.shape (job_of a.job.now.numbers.now) c.requires.well_formed.0 c.requires.well_formed.1 p;
+      last_bounds = planning-last (as_planner a.rule) a.links.now.job.shape (job_of a.links.now.job.numbers.now) c.requires.well_formed.0 c.requires.well_formed.1 p;
+      bounds = planning-stairs (as_planner a.rule) a.links.now.job.shape (job_of a.links.now.job.numbers.now) c.requires.well_formed.0 c.requires.well_formed.1 p;
       order_bounds = c.requires.order_bounds;
       p_value = c.requires.p_value;
     }
@@ -45,7 +45,7 @@ overflow_add-trials c =
       arith,
       c.loop-placed.invariant.2.counted,
       c.round-found.ensures.choice_bounds.1,
-      (job-bounds c.args.job.now.shape (job_of c.args.job.now.numbers.now) c.requires.well_formed.0).tasks,
+      (job-bounds c.args.links.now.job.shape (job_of c.args.links.now.job.numbers.now) c.requires.well_formed.0).tasks,
       c.loop-placed.invariant.2.most,
     )
 
@@ -53,7 +53,7 @@ pub returns-in_default : goal.returns-in_default
 returns-in_default c =
     let a = c.args in
     let p = c.loop-placed.invariant.2 in record {
-      schedule_after = planning-stuck (as_planner a.rule) a.job.now.shape (job_of a.job.now.numbers.now) c.requires.well_formed.0 c.requires.well_formed.1 p c.loop-placed-test.true
+      schedule_after = planning-stuck (as_planner a.rule) a.links.now.job.shape (job_of a.links.now.job.numbers.now) c.requires.well_formed.0 c.requires.well_formed.1 p c.loop-placed-test.true
           c.round-found.result (c.round-found.ensures.result_value _ p.kept) c.in_default.is;
       claims = tt;
     }
@@ -62,12 +62,10 @@ pub place_task-requires : goal.place_task-requires
 place_task-requires c =
     let a = c.args in
     let p = c.loop-placed.invariant.2 in
-    let x = chosen-bounds a.job.now.shape c.in-Some.is c.round-found.ensures.choice_bounds.0 in record {
-      chained = c.requires.chained;
-      chained_2 = c.requires.chained_2;
+    let x = chosen-bounds a.links.now.job.shape c.in-Some.is c.round-found.ensures.choice_bounds.0 in record {
       kept = p.kept;
-      needs_bounds = (p.numbers, x.1);
-      trial = planning-trial (as_planner a.rule) a.job.now.shape (job_of a.job.now.numbers.now) c.requires.well_formed.0 c.requires.well_formed.1 p c.loop-placed-test.true
+      start_bound = x.1;
+      trial = planning-trial (as_planner a.rule) a.links.now.job.shape (job_of a.links.now.job.numbers.now) c.requires.well_formed.0 c.requires.well_formed.1 p c.loop-placed-test.true
           c.round-found.result (c.round-found.ensures.result_value _ p.kept) c.in-Some.is;
       schedule_len = (c.loop-placed.invariant.0, c.loop-placed.invariant.1);
     }
@@ -79,22 +77,22 @@ loop-placed-preserved c =
     let e = c.place_task.ensures in (
       e.schedule_len_2.0,
       e.schedule_len_2.1,
-      planning-next (as_planner a.rule) a.job.now.shape (job_of a.job.now.numbers.now) c.requires.well_formed.0 c.requires.well_formed.1 p c.loop-placed-test.true
-          c.round-found.result (c.round-found.ensures.result_value _ p.kept) c.in-Some.is e.last_after e.kept_2 e.needs_bounds_2 c.round-found.ensures.choice_bounds.1,
+      planning-next (as_planner a.rule) a.links.now.job.shape (job_of a.links.now.job.numbers.now) c.requires.well_formed.0 c.requires.well_formed.1 p c.loop-placed-test.true
+          c.round-found.result (c.round-found.ensures.result_value _ p.kept) c.in-Some.is e.last_after e.kept_2 c.round-found.ensures.choice_bounds.1,
     )
 
 pub claim_from-claim-requires : goal.claim_from-claim-requires
 claim_from-claim-requires c =
     let a = c.args in record {
-      processors = (job-bounds a.job.now.shape (job_of a.job.now.numbers.now) c.requires.well_formed.0).processors;
-      free_within = planning-free (as_planner a.rule) a.job.now.shape (job_of a.job.now.numbers.now) c.requires.well_formed.0 c.requires.well_formed.1 c.loop-placed.invariant.2;
+      processors = (job-bounds a.links.now.job.shape (job_of a.links.now.job.numbers.now) c.requires.well_formed.0).processors;
+      free_within = planning-free (as_planner a.rule) a.links.now.job.shape (job_of a.links.now.job.numbers.now) c.requires.well_formed.0 c.requires.well_formed.1 c.loop-placed.invariant.2;
     }
 
 pub returns : goal.returns
 returns c =
     let a = c.args in
     let p = c.loop-placed.invariant.2 in record {
-      schedule_after = planning-done (as_planner a.rule) a.job.now.shape (job_of a.job.now.numbers.now) c.requires.well_formed.0 c.requires.well_formed.1 p c.loop-placed-test.false;
-      claims = c.claim_from-claim.ensures (job_of a.job.now.numbers.now) _ _ p.kept
-          (planning-complete (as_planner a.rule) a.job.now.shape (job_of a.job.now.numbers.now) c.requires.well_formed.0 c.requires.well_formed.1 p c.loop-placed-test.false);
+      schedule_after = planning-done (as_planner a.rule) a.links.now.job.shape (job_of a.links.now.job.numbers.now) c.requires.well_formed.0 c.requires.well_formed.1 p c.loop-placed-test.false;
+      claims = c.claim_from-claim.ensures (job_of a.links.now.job.numbers.now) _ _ p.kept
+          (planning-complete (as_planner a.rule) a.links.now.job.shape (job_of a.links.now.job.numbers.now) c.requires.well_formed.0 c.requires.well_formed.1 p c.loop-placed-test.false);
     }

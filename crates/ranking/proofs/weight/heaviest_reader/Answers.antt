@@ -1,63 +1,46 @@
 use native.Mathlib.Omega.{arith}
+use Prim.Native.Nat.{◌<◌}
 use Rattle.model.specs.Layout.{job_of}
-use Rattle.model.proofs.LayoutLaws.{job-bounds}
-use Rattle.ranking.proofs.WeightLaws.{walk_start, walk-on, walk_turn, walk_end}
+use Rattle.links.proofs.WalkLaws.{next-at, next-in, come, ended}
+use Rattle.ranking.proofs.WeightLaws.{walk_start, walk_turn, walk_end}
 use Rattle.ranking.proofs.weight.heaviest_reader.Goals as goal
 
-pub offset_bounds-first-i : goal.offset_bounds-first-i
-offset_bounds-first-i c = omega (arith, (job-bounds _ _ c.requires.well_formed).tasks)
-
-pub bounds-first-i : goal.bounds-first-i
-bounds-first-i c = omega (arith, (job-bounds _ _ c.requires.well_formed).tasks)
-
-pub loop-k-init : goal.loop-k-init
-loop-k-init c =
-    walk_start c.args.shape (job_of c.args.job.now) c.requires.well_formed c.requires.chained c.requires.i_lt_tasks
-
-pub reader-d-requires : goal.reader-d-requires
-reader-d-requires c = record {
-  job_in_bounds = job-bounds _ _ c.requires.well_formed;
-  k_lt_files = c.loop-k-test.true;
-}
-
-pub move_time-requires : goal.move_time-requires
-move_time-requires c = omega (arith, (job-bounds _ _ c.requires.well_formed).files)
-
-pub offset_bounds-weights-d : goal.offset_bounds-weights-d
-offset_bounds-weights-d c = omega (arith, (job-bounds _ _ c.requires.well_formed).tasks)
-
-pub bounds-weights-d : goal.bounds-weights-d
-bounds-weights-d c = omega (arith, (job-bounds _ _ c.requires.well_formed).tasks)
+pub loop-at-init : goal.loop-at-init
+loop-at-init c =
+    let j = c.args.links.now.job in
+    let J = job_of j.numbers.now in
+    let next = next-in j.shape J c.first-at.ensures in record {
+      at = next-at next;
+      within = next.next.within;
+      most = walk_start j.shape J c.requires.well_formed c.args.i next.next;
+    }
 
 pub overflow_add-move_time : goal.overflow_add-move_time
-overflow_add-move_time c =
-    omega (
-      arith,
-      (job-bounds _ _ c.requires.well_formed).move_time c.loop-k.k c.loop-k-test.true,
-      c.move_time.ensures,
-      c.requires.weights_from.bounded c.reader-d.result,
-    )
+overflow_add-move_time c = omega (arith, c.move_time.ensures.upper_bound, c.requires.weights_from.bounded c.reader-reader.result)
 
-pub offset_bounds-next-k : goal.offset_bounds-next-k
-offset_bounds-next-k c = omega (arith, (job-bounds _ _ c.requires.well_formed).files)
+pub loop-at-smaller : goal.loop-at-smaller
+loop-at-smaller c =
+    let j = c.args.links.now.job in
+    let k = c.in-Some.k in
+    let h : k < j.shape.files = c.loop-at.invariant.at.exists k c.in-Some.is in
+    let next = next-in j.shape (job_of j.numbers.now) (c.next-at.ensures c.args.i (c.loop-at.invariant.at.holds k c.in-Some.is)) in
+    omega (arith, come j.shape.files c.in-Some.is, next.next.from, next.next.within)
 
-pub bounds-next-k : goal.bounds-next-k
-bounds-next-k c = omega (arith, (job-bounds _ _ c.requires.well_formed).files)
-
-pub loop-k-smaller : goal.loop-k-smaller
-loop-k-smaller c =
-    omega (
-      arith,
-      walk-on c.args.shape (job_of c.args.job.now) c.requires.well_formed c.requires.chained c.loop-k.invariant
-          c.loop-k-test.true,
-    )
-
-pub loop-k-preserved : goal.loop-k-preserved
-loop-k-preserved c =
-    walk_turn c.args.shape (job_of c.args.job.now) c.requires.well_formed c.requires.chained c.loop-k.invariant
-    c.loop-k-test.true c.requires.weights_from c.reader-d.ensures.value
-    c.move_time.ensures c.greater-most.ensures
+pub loop-at-preserved : goal.loop-at-preserved
+loop-at-preserved c =
+    let j = c.args.links.now.job in
+    let J = job_of j.numbers.now in
+    let k = c.in-Some.k in
+    let h : k < j.shape.files = c.loop-at.invariant.at.exists k c.in-Some.is in
+    let here = c.loop-at.invariant.at.holds k c.in-Some.is in
+    let next = next-in j.shape J (c.next-at.ensures c.args.i here) in record {
+      at = next-at next;
+      within = next.next.within;
+      most = walk_turn j.shape J c.requires.well_formed c.args.i c.loop-at.most (rw (come j.shape.files c.in-Some.is) at c.loop-at.invariant.most) h here c.requires.weights_from
+          c.reader-reader.ensures.value c.move_time.ensures.value next.next c.max-most.ensures;
+    }
 
 pub returns : goal.returns
 returns c =
-    walk_end c.args.shape (job_of c.args.job.now) c.requires.well_formed c.loop-k.invariant (omega arith)
+    let j = c.args.links.now.job in
+    walk_end j.shape (job_of j.numbers.now) c.requires.well_formed c.args.i c.loop-at.invariant.most (ended j.shape.files c.in_default.is)

@@ -17,7 +17,7 @@ loop-i-init c =
 
 pub try_task-round-requires : goal.try_task-round-requires
 try_task-round-requires c = record {
-  kept_bounds = (c.requires.kept_bounds, c.idle_from-idle.ensures.idle_bounds);
+  bounds = (c.requires.bounds, c.idle_from-idle.ensures.idle_bounds);
   task_lt_tasks = c.loop-i-test.true;
 }
 

@@ -5,7 +5,7 @@ use Rattle.starts.specs.Memories.{as_memory}
 use Rattle.selection.proofs.RoundLaws.{LeftFor}
 use Rattle.selection.proofs.round.first_that_fits.Given as goal
 
-abbrev pub invariant-loop-i : goal.invariant-loop-i
-invariant-loop-i l =
-    (l.trials ≤ 2 * l.i)
-    × LeftFor (as_memory l.memory) l.job.shape (job_of l.job.numbers.now) l.last l.needs l.stairs l.order l.i l.trials
+abbrev pub invariant-loop-task : goal.invariant-loop-task
+invariant-loop-task l =
+    (l.trials ≤ 2 * l.task-index)
+    × LeftFor (as_memory l.memory) l.job.shape (job_of l.job.numbers.now) l.last l.needs l.stairs l.order l.task-index l.trials

@@ -9,22 +9,22 @@ use Rattle.starts.specs.Memories.{as_memory}
 use Rattle.selection.proofs.RoundLaws.{is-ready, one-tried, one_left}
 use Rattle.selection.proofs.round.try_task.Goals as goal
 
-pub is_ready-requires : goal.is_ready-requires
-is_ready-requires c = omega (arith, c.args.job.now.in_bounds.tasks, c.requires.task_lt_tasks)
+pub of-requires : goal.of-requires
+of-requires c = omega (arith, c.args.job.now.in_bounds.tasks, c.requires.task_lt_tasks)
 
 pub both_colours-choice-requires : goal.both_colours-choice-requires
 both_colours-choice-requires c = record {
-  kept_bounds = c.requires.kept_bounds;
+  bounds = c.requires.bounds;
   task_lt_tasks = c.requires.task_lt_tasks;
 }
 
-pub returns-then-is_ready : goal.returns-then-is_ready
-returns-then-is_ready c =
+pub returns-then-of : goal.returns-then-of
+returns-then-of c =
     let a = c.args in record {
       result_value = (λ Q k e.
           let h : a.task < task_count (instance_from a.job.now.shape (job_of a.job.now.numbers.now)) = omega (arith, task-count a.job.now.shape (job_of a.job.now.numbers.now), c.requires.task_lt_tasks) in
-          one-tried k h c.is_ready.ensures (as_memory a.memory) c.if-is_ready.true c.both_colours-choice.result
-          (c.both_colours-choice.ensures.result_value Q k e (is-ready k h c.is_ready.ensures ∙ c.if-is_ready.true)));
+          one-tried k h c.of.ensures.value (as_memory a.memory) c.if-of.true c.both_colours-choice.result
+          (c.both_colours-choice.ensures.result_value Q k e (is-ready k h c.of.ensures.value ∙ c.if-of.true)));
       choice_bounds = (c.both_colours-choice.ensures.choice_bounds, omega arith);
     }
 
@@ -33,6 +33,6 @@ returns c =
     let a = c.args in record {
       result_value = (λ Q k e.
           let h : a.task < task_count (instance_from a.job.now.shape (job_of a.job.now.numbers.now)) = omega (arith, task-count a.job.now.shape (job_of a.job.now.numbers.now), c.requires.task_lt_tasks) in
-          one_left k h c.is_ready.ensures (as_memory a.memory) c.if-is_ready.false);
+          one_left k h c.of.ensures.value (as_memory a.memory) c.if-of.false);
       choice_bounds = (tt, omega arith);
     }

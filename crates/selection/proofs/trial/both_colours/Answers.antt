@@ -8,19 +8,14 @@ use Rattle.starts.specs.Memories.{as_memory}
 use Rattle.selection.proofs.ChoiceLaws.{both_at, on-blue, on-red}
 use Rattle.selection.proofs.trial.both_colours.Goals as goal
 
+pub of-need-requires : goal.of-need-requires
+of-need-requires c = omega (arith, c.args.job.now.in_bounds.tasks)
+
 pub earliest_start-on_blue-requires : goal.earliest_start-on_blue-requires
-earliest_start-on_blue-requires c =
-    let k = c.requires.kept_bounds in record {
-      needs_bounds = (k.0.needs, k.0.blue);
-      task_lt_max_tasks = (omega (arith, c.args.job.now.in_bounds.tasks), k.1.0);
-    }
+earliest_start-on_blue-requires c = record { bounds = (c.of-need.ensures.bounds, c.requires.bounds.0.blue, c.requires.bounds.1.0) }
 
 pub earliest_start-on_red-requires : goal.earliest_start-on_red-requires
-earliest_start-on_red-requires c =
-    let k = c.requires.kept_bounds in record {
-      needs_bounds = (k.0.needs, k.0.red);
-      task_lt_max_tasks = (omega (arith, c.args.job.now.in_bounds.tasks), k.1.1);
-    }
+earliest_start-on_red-requires c = record { bounds = (c.of-need.ensures.bounds, c.requires.bounds.0.red, c.requires.bounds.1.1) }
 
 pub tried-first-requires : goal.tried-first-requires
 tried-first-requires c = c.earliest_start-on_blue.ensures.result_bound
@@ -40,7 +35,7 @@ returns c =
           let h : a.task < task_count I = omega (arith, task-count a.job.now.shape (job_of a.job.now.numbers.now), c.requires.task_lt_tasks) in
           both_at (as_memory a.memory) I Q a.task c.earliest_start-on_blue.result c.earliest_start-on_red.result
           c.tried-first.result c.tried-second.result c.earlier.result
-          (c.earliest_start-on_blue.ensures.result_value I Q (on-blue k e h r)) (c.earliest_start-on_red.ensures.result_value I Q (on-red k e h r))
+          (c.earliest_start-on_blue.ensures.result_value I Q a.task (on-blue k e h r c.of-need.ensures.value)) (c.earliest_start-on_red.ensures.result_value I Q a.task (on-red k e h r c.of-need.ensures.value))
           c.tried-first.ensures.result_value c.tried-second.ensures.result_value c.earlier.ensures.result_value);
       choice_bounds = c.earlier.ensures.choice_bounds;
     }

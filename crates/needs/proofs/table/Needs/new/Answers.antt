@@ -1,0 +1,7 @@
+-- `new` meets its type.
+use mathlib.Core.Path.{refl}
+use Rattle.needs.proofs.NeedsLaws.{none_bounds}
+use Rattle.needs.proofs.table.Needs.new.Goals as goal
+
+pub invariant_of-result : goal.invariant_of-result
+invariant_of-result c = record { whole = refl; bounds = rw (c.new.ensures, c.new-2.ensures) none_bounds }
