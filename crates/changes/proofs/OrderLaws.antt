@@ -1,11 +1,13 @@
 -- A memory's changes, packed and sorted, are its changes in time order.
 use Prim.Native.Nat.{ℕ, suc, ◌<◌}
 use mathlib.Core.Bool.{true, cond}
-use mathlib.Core.List.{List}
+use mathlib.Core.List.{List, []}
 use mathlib.Core.Path.{◌≡◌, sym, ◌∙◌, ap}
 use native.Mathlib.Omega.{arith}
 use lib.ListN.{length, get_or}
-use Rattle.rules.specs.Count.{sum_over}
+use Rattle.std.proofs.lemmas.List.{length-map, get_or-map}
+use lib.Seq.{ext_get_or}
+use Rattle.rules.specs.Count.{sum_over, list_below}
 use Rattle.rules.specs.Model.{Colour, Instance, Schedule}
 use Rattle.rules.specs.Changes.{residencies, Change, changes, change_at, same_change, InOrder, InTime}
 use Rattle.rules.proofs.CountLaws.{length-list_below, get_or-list_below}
@@ -19,24 +21,35 @@ use Rattle.changes.specs.Listed.{listed, file_residency, work_residency, Listing
 use Rattle.changes.proofs.PackedLaws.{key-unpacked}
 use Rattle.changes.proofs.ListLaws.{listing-both}
 
-module _ (n : ℕ) (xs : List ℕ) where
-  pub listed-length : length (listed n xs) ≡ n
-  listed-length = length-list_below n (λ k. unpacked (get_or xs k 0))
+module _ (xs : List ℕ) where
+  pub listed-length : length (listed xs) ≡ length xs
+  listed-length = length-map xs unpacked
 
-  pub listed_at : (k : ℕ) → k < n → change_at (listed n xs) k ≡ unpacked (get_or xs k 0)
-  listed_at k l = get_or-list_below n (λ k. unpacked (get_or xs k 0)) k (record { tick = 0; rises = true; amount = 0 }) l
+  pub listed_at : (k : ℕ) → k < length xs → change_at (listed xs) k ≡ unpacked (get_or xs k 0)
+  listed_at k l = get_or-map unpacked xs k 0 (record { tick = 0; rises = true; amount = 0 }) l
 
-module _ {n : ℕ} {xs ys : List ℕ} (s : Sorted n xs ys) where
-  same-sums : (f : Change → ℕ) → sum_over f (listed n xs) ≡ sum_over f (listed n ys)
-  same-sums f = sum-list n (λ k. unpacked (get_or xs k 0)) f ∙ s.same (λ p. f (unpacked p)) ∙ sym (sum-list n (λ k. unpacked (get_or ys k 0)) f)
+  -- the same by index
+  listed-below : listed xs ≡ list_below (length xs) (λ k. unpacked (get_or xs k 0))
+  listed-below =
+      let empty : Change = record { tick = 0; rises = true; amount = 0 } in
+      ext_get_or empty (listed xs) (list_below (length xs) (λ k. unpacked (get_or xs k 0)))
+      (listed-length ∙ sym (length-list_below (length xs) (λ k. unpacked (get_or xs k 0))))
+      (λ k h. let l : k < length xs = omega (arith, listed-length) in listed_at k l ∙ sym (get_or-list_below (length xs) (λ k. unpacked (get_or xs k 0)) k empty l))
 
-  in_order : InOrder (listed n ys)
+module _ {xs ys : List ℕ} (same_length : length ys ≡ length xs) (s : Sorted (length xs) xs ys) where
+  same-sums : (f : Change → ℕ) → sum_over f (listed xs) ≡ sum_over f (listed ys)
+  same-sums f =
+      let n = length xs in
+      rw (listed-below xs, listed-below ys, same_length)
+      (sum-list n (λ k. unpacked (get_or xs k 0)) f ∙ s.same (λ p. f (unpacked p)) ∙ sym (sum-list n (λ k. unpacked (get_or ys k 0)) f))
+
+  in_order : InOrder (listed ys)
   in_order k l =
-      let z = listed-length n ys in
-      rw (listed_at n ys k (omega arith), listed_at n ys (suc k) (omega arith), key-unpacked (get_or ys k 0), key-unpacked (get_or ys (suc k) 0))
+      let z = listed-length ys in
+      rw (listed_at ys k (omega arith), listed_at ys (suc k) (omega arith), key-unpacked (get_or ys k 0), key-unpacked (get_or ys (suc k) 0))
       (s.order k (omega arith))
 
-  pub in-time : (I : Instance) (P : Schedule) (c : Colour) → listed n xs ≡ changes I P c → InTime I P c (listed n ys)
+  pub in-time : (I : Instance) (P : Schedule) (c : Colour) → listed xs ≡ changes I P c → InTime I P c (listed ys)
   in-time I P c e = record {
     same = λ x. let f : Change → ℕ = λ y. cond (same_change x y) 1 0 in ap (sum_over f) (sym e) ∙ same-sums f;
     order = in_order;
@@ -51,11 +64,11 @@ module _ (b : Shape) (J : Job) (L : Entries) (c : Colour) where
   abbrev P : Schedule
   P = schedule_from b L
 
-  all_listed : {xs ys zs : List ℕ} {m n : ℕ} → Listing xs 0 (file_residency I P c) b.files ys m → Listing ys m (work_residency I P c) b.tasks zs n
-      → listed n zs ≡ changes I P c
+  all_listed : {ys zs : List ℕ} → Listing [] (file_residency I P c) b.files ys → Listing ys (work_residency I P c) b.tasks zs
+      → listed zs ≡ changes I P c
   unfolding residencies
   all_listed f w = listing-both (file_residency I P c) (work_residency I P c) b.files b.tasks f w ∙ rw (file-count b J, task-count b J)
 
-  pub sorted-in-time : {xs ys zs us : List ℕ} {m n : ℕ} → Listing xs 0 (file_residency I P c) b.files ys m
-      → Listing ys m (work_residency I P c) b.tasks zs n → Sorted n zs us → InTime I P c (listed n us)
-  sorted-in-time f w s = in-time s I P c (all_listed f w)
+  pub sorted-in-time : {ys zs us : List ℕ} → Listing [] (file_residency I P c) b.files ys → Listing ys (work_residency I P c) b.tasks zs
+      → length us ≡ length zs → Sorted (length zs) zs us → InTime I P c (listed us)
+  sorted-in-time f w e s = in-time e s I P c (all_listed f w)

@@ -1,24 +1,24 @@
--- A memory's changes as numbers in an array.
-use Rattle.std.specs.Prelude.{ℕ, ◌+◌, ◌≤◌, List, ◌++◌, ◌≡◌, get_or}
+-- A memory's changes as a list of numbers.
+use Rattle.std.specs.Prelude.{ℕ, ◌+◌, ◌≤◌, List, ◌++◌, ◌≡◌, map, length}
 use Rattle.rules.specs.Count.{list_below}
 use Rattle.rules.specs.Model.{Colour, Instance, work_at, size_at, Schedule}
 use Rattle.rules.specs.Residency.{Hold, hold_of, work_of}
 use Rattle.rules.specs.Changes.{Residency, Change, changes_by, changes_in}
 use Rattle.changes.specs.Packed.{unpacked}
 
--- the changes that the first n numbers stand for
-abbrev pub listed : ℕ → List ℕ → List Change
-listed n xs = list_below n (λ k. unpacked (get_or xs k 0))
+-- the changes that the numbers stand for
+abbrev pub listed : List ℕ → List Change
+listed xs = map unpacked xs
 
--- the first m numbers of ys are the first n of xs and behind them the changes of a hold
-pub record Pushed (xs : List ℕ) (n : ℕ) (h : Hold) (size : ℕ) (ys : List ℕ) (m : ℕ) : Type 0 where
-  pub more : m ≤ n + 2
-  pub changes : listed m ys ≡ listed n xs ++ changes_by h size
+-- ys are xs and behind them the changes of a hold
+pub record Pushed (xs : List ℕ) (h : Hold) (size : ℕ) (ys : List ℕ) : Type 0 where
+  pub more : length ys ≤ length xs + 2
+  pub changes : listed ys ≡ listed xs ++ changes_by h size
 
--- the first m numbers of ys are the first n of xs and behind them the changes of the first k residencies of g
-pub record Listing (xs : List ℕ) (n : ℕ) (g : ℕ → Residency) (k : ℕ) (ys : List ℕ) (m : ℕ) : Type 0 where
-  pub more : m ≤ n + (k + k)
-  pub changes : listed m ys ≡ listed n xs ++ changes_in (list_below k g)
+-- ys are xs and behind them the changes of the first k residencies of g
+pub record Listing (xs : List ℕ) (g : ℕ → Residency) (k : ℕ) (ys : List ℕ) : Type 0 where
+  pub more : length ys ≤ length xs + (k + k)
+  pub changes : listed ys ≡ listed xs ++ changes_in (list_below k g)
 
 -- the two kinds of `residencies`
 abbrev pub file_residency : Instance → Schedule → Colour → ℕ → Residency

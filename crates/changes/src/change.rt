@@ -6,7 +6,6 @@ ghost use Rattle.model.specs.Layout.{last_tick};
 ghost use Rattle.sorting.specs.Sorted.{capacity, unit};
 ghost use Rattle.changes.specs.Packed.{packed as packed-change, unpacked};
 
-use model::choice::{lesser, select, value_if};
 use sorting::KEY;
 
 // Above every amount.
@@ -16,7 +15,7 @@ pub fn packed(tick: u64, rises: bool, amount: u64) -> u64
     requires { (tick ≤ last_tick) × (amount < unit) }
     ensures { result ≡ packed-change (record { tick = tick; rises = rises; amount = amount }) }
 {
-    (tick * 2 + value_if(rises, 1)) * UNIT + amount
+    (tick * 2 + u64::from(rises)) * UNIT + amount
 }
 
 pub fn tick_of(change: u64) -> u64
@@ -32,9 +31,9 @@ pub fn changed(change: u64, total: u64) -> u64
     ensures upper_bound { result ≤ total + unit }
 {
     let amount = change % UNIT;
-    select(
-        change / UNIT % 2 == 1,
-        total + amount,
-        total - lesser(total, amount),
-    )
+    if change / UNIT % 2 == 1 {
+        total + amount
+    } else {
+        total.saturating_sub(amount)
+    }
 }

@@ -1,103 +1,68 @@
-// The changes of a memory, listed in an array and sorted there.
+// The changes of a memory, listed and sorted.
 ghost use Rattle.std.specs.Prelude.{◌+◌, ◌<◌, ◌≤◌};
 ghost use Rattle.rules.specs.Changes.{InTime};
+ghost use Rattle.arrayvec.specs.ArrayVec.{array_vec_len};
 ghost use Rattle.model.specs.Colours.{as_colour};
-ghost use Rattle.model.specs.Layout.{instance_of, schedule_of, InBounds, last_tick};
+ghost use Rattle.model.specs.Jobs.{instance_in, schedule_in};
+ghost use Rattle.model.specs.Layout.{last_tick};
 ghost use Rattle.model.specs.Holds.{as_hold, Within};
 ghost use Rattle.sorting.specs.Sorted.{capacity, unit};
 ghost use Rattle.changes.specs.Listed.{listed, file_residency, work_residency, Pushed, Listing};
 
 use super::change::packed;
+use arrayvec::ArrayVec;
 use model::colour::Colour;
-use model::layout;
-use model::layout::{Shape, store};
-use model::residency::{Hold, hold_of, work_hold};
+use model::residency::Hold;
+use model::timetable::Timetable;
 use sorting::{CAPACITY, sort};
 
-// Puts the changes of a hold behind the first n numbers, and returns how many there are then.
-fn push(numbers: &mut [u64; CAPACITY], n: usize, h: Hold, size: u64) -> usize
-    requires { (n + 2 ≤ capacity) × (size < unit) × Within last_tick h }
-    ensures { Pushed numbers.old n (as_hold h) size numbers.new result }
+// Changes as numbers.
+pub type Changes = ArrayVec<u64, CAPACITY>;
+
+// Appends the changes of a hold.
+fn push(changes: &mut Changes, h: Hold, size: u64)
+    requires { (array_vec_len changes.old + 2 ≤ capacity) × (size < unit) × Within last_tick h }
+    ensures { Pushed changes.old.items (as_hold h) size changes.new.items }
 {
     match h {
-        Hold::Never => n,
+        Hold::Never => {}
         Hold::During(from, end) => {
-            store(numbers, n, packed(from, true, size));
-            store(numbers, n + 1, packed(end, false, size));
-            n + 2
+            changes.push(packed(from, true, size));
+            changes.push(packed(end, false, size));
         }
-        Hold::Since(from) => {
-            store(numbers, n, packed(from, true, size));
-            n + 1
-        }
+        Hold::Since(from) => changes.push(packed(from, true, size)),
     }
 }
 
-// Puts the changes of the files behind the first `start` numbers.
-fn push_files<'a>(
-    shape: Shape,
-    job: &'a layout::Numbers,
-    schedule: &'a layout::Schedule,
-    colour: Colour,
-    numbers: &mut [u64; CAPACITY],
-    start: usize,
-) -> usize
-    requires in_bounds { InBounds shape job.now schedule.now }
-    requires files_bound { start + (shape.files + shape.files) ≤ capacity }
-    ensures { Listing numbers.old start
-        (file_residency (instance_of shape job.now) (schedule_of shape schedule.now) (as_colour colour)) shape.files
-        numbers.new result }
+// Appends the changes of the files. One function for these and those of the tasks would take a closure, and clauses as long as both.
+fn push_files(t: &Timetable, colour: Colour, changes: &mut Changes)
+    requires { array_vec_len changes.old + (t.now.job.shape.files + t.now.job.shape.files) ≤ capacity }
+    ensures { Listing changes.old.items (file_residency (instance_in t.now.job) (schedule_in t.now) (as_colour colour)) t.now.job.shape.files
+        changes.new.items }
 {
-    let mut n = start;
-    let mut k: usize = 0;
-    while k < shape.files {
-        let h = hold_of(shape, job, schedule, k, colour);
-        n = push(numbers, n, h, layout::size(job, k));
-        k += 1;
+    for k in 0..t.job.shape.files {
+        push(changes, t.hold_of(k, colour), t.job.size(k));
     }
-    n
 }
 
-// Puts the changes of the tasks' working memory behind the first `start` numbers.
-fn push_work<'a>(
-    shape: Shape,
-    job: &'a layout::Numbers,
-    schedule: &'a layout::Schedule,
-    colour: Colour,
-    numbers: &mut [u64; CAPACITY],
-    start: usize,
-) -> usize
-    requires in_bounds { InBounds shape job.now schedule.now }
-    requires tasks_bound { start + (shape.tasks + shape.tasks) ≤ capacity }
-    ensures { Listing numbers.old start
-        (work_residency (instance_of shape job.now) (schedule_of shape schedule.now) (as_colour colour)) shape.tasks
-        numbers.new result }
+// Appends the changes of the tasks' working memory.
+fn push_work(t: &Timetable, colour: Colour, changes: &mut Changes)
+    requires { array_vec_len changes.old + (t.now.job.shape.tasks + t.now.job.shape.tasks) ≤ capacity }
+    ensures { Listing changes.old.items (work_residency (instance_in t.now.job) (schedule_in t.now) (as_colour colour)) t.now.job.shape.tasks
+        changes.new.items }
 {
-    let mut n = start;
-    let mut i: usize = 0;
-    while i < shape.tasks {
-        let h = work_hold(shape, job, schedule, i, colour);
-        n = push(numbers, n, h, layout::work(job, i));
-        i += 1;
+    for i in 0..t.job.shape.tasks {
+        push(changes, t.work_hold(i, colour), t.job.work(i));
     }
-    n
 }
 
-// Leaves the changes of the memory of the colour in the array, in time order, whatever it held before, and returns how many there are.
-pub fn sorted_changes<'a>(
-    shape: Shape,
-    job: &'a layout::Numbers,
-    schedule: &'a layout::Schedule,
-    colour: Colour,
-    numbers: &mut [u64; CAPACITY],
-) -> usize
-    requires { InBounds shape job.now schedule.now }
-    ensures in_time { InTime (instance_of shape job.now) (schedule_of shape schedule.now) (as_colour colour)
-        (listed result numbers.new) }
-    ensures upper_bound { result ≤ capacity }
+// Leaves the changes of the memory of the colour in the list, in time order, whatever it held before.
+pub fn sorted_changes(t: &Timetable, colour: Colour, changes: &mut Changes)
+    ensures in_time { InTime (instance_in t.now.job) (schedule_in t.now) (as_colour colour) (listed changes.new.items) }
+    ensures upper_bound { array_vec_len changes.new ≤ capacity }
 {
-    let files = push_files(shape, job, schedule, colour, numbers, 0);
-    let n = push_work(shape, job, schedule, colour, numbers, files);
-    sort(numbers, n);
-    n
+    changes.clear();
+    push_files(t, colour, changes);
+    push_work(t, colour, changes);
+    sort(changes.as_mut_slice());
 }

@@ -11,7 +11,6 @@ ghost use Rattle.validator.specs.Answer.{as_verdict};
 use super::exclusion::first_overlapping;
 use super::memory::walk_memories;
 use super::timing::first_early;
-use changes::totals::Over;
 use model::claim::Claim;
 use model::layout;
 use model::layout::Shape;
@@ -98,8 +97,7 @@ fn judge_memory<'a>(
         judged_memory (instance_of shape job.now) (schedule_of shape schedule.now) (as_claim claim) }
 {
     let found = walk_memories(shape, job, schedule);
-    let over = found.over;
-    if let Over::At(t) = over {
+    if let Some(t) = found.over {
         return Verdict::refused(Verdict::OVER_LIMIT, t);
     }
     let own = Claim {

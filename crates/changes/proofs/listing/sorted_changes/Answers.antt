@@ -1,14 +1,19 @@
 -- `sorted_changes` meets its contract: the changes of the files, those of the working memory, and the sort.
-use native.Mathlib.Omega.{arith}
+use Rattle.std.proofs.Common.{◌≡◌, ◌∙◌, ap, length}
+use borrow.Author.Rules.{rules}
+use Rattle.arrayvec.specs.ArrayVec.{array_vec_len}
+use Rattle.arrayvec.proofs.ArrayVecLemmas.{items-with_items}
 use Rattle.model.specs.Colours.{as_colour}
 use Rattle.model.specs.Layout.{job_of, entries_of}
 use Rattle.changes.proofs.OrderLaws.{sorted-in-time}
 use Rattle.changes.proofs.listing.sorted_changes.Goals as goal
 
-pub returns : goal.returns
-returns c =
-    let a = c.args in record {
-      in_time = sorted-in-time a.shape (job_of a.job.now) (entries_of a.schedule.now) (as_colour a.colour) c.push_files-files.ensures c.push_work-n.ensures
-          c.sort.ensures;
-      upper_bound = omega (arith, c.push_files-files.ensures.more, c.push_work-n.ensures.more, c.requires.job.files, c.requires.job.tasks);
-    }
+pub returns-clause-in_time : goal.returns-clause-in_time
+returns-clause-in_time c =
+    let t = c.args.t.now in
+    let v = c.push_work.new.changes in
+    let same : length c.sort.new.a ≡ length c.as_mut_slice.result.now = search rules in
+    let whole : length c.sort.new.a ≡ array_vec_len v = same ∙ ap length c.as_mut_slice.ensures.value in
+    rw (items-with_items v c.sort.new.a whole)
+    (sorted-in-time t.job.shape (job_of t.job.numbers.now) (entries_of t.schedule.now) (as_colour c.args.colour) (rw c.clear.ensures at c.push_files.ensures)
+    c.push_work.ensures whole (rw c.as_mut_slice.ensures.value at c.sort.ensures))
