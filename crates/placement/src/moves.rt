@@ -9,7 +9,6 @@ ghost use Rattle.model.specs.Layout.{entries_of, run_from, WholeSchedule, schedu
 ghost use Rattle.model.specs.Jobs.{instance_in};
 
 use links::{End, Links};
-use model::choice::select;
 use model::job::Job;
 use model::layout;
 use model::trial::Trial;
@@ -21,9 +20,10 @@ fn move_with(job: &Job, schedule: &layout::Schedule, trial: Trial, k: usize) -> 
 {
     let cost = job.cost_for(schedule, k, trial.task, trial.colour);
     let takes = cost.move_time;
-    let departs = trial.start.saturating_sub(takes);
-    let before = layout::move_start(schedule, k);
-    select(0 < takes, departs, before)
+    if takes == 0 {
+        return layout::move_start(schedule, k);
+    }
+    trial.start.saturating_sub(takes)
 }
 
 // The move starts of all files, with the trial's task placed. The runs stay. Only files that the task reads move.

@@ -6,7 +6,6 @@ ghost use Rattle.model.specs.Colours.{as_colour};
 ghost use Rattle.model.specs.Layout.{Job, Entries, last_length, instance_from, partial_from, count_in, Processors};
 ghost use Rattle.placement.specs.Slots.{slot_in, last_in};
 
-use model::choice::value_if;
 use model::colour::{Colour, by_colour};
 use model::layout;
 use model::layout::Shape;
@@ -55,7 +54,9 @@ fn latest_in(shape: Shape, last: &[u64; layout::LAST], colour: Colour, start: u6
     let mut most: u64 = 0;
     for p in 0..n {
         let finish = last_in(shape, last, colour, p);
-        most = most.max(value_if(finish <= start, finish));
+        if finish <= start {
+            most = most.max(finish);
+        }
     }
     most
 }
@@ -67,7 +68,7 @@ fn is_latest_free(finish: u64, start: u64, latest: u64) -> bool
     finish <= start && finish == latest
 }
 
-// The processor chosen, counted from 0 within the colour; their number if none is free by the start.
+// The processor chosen, counted from 0 within the colour; their number if none is free by the start, as the rules have it.
 pub fn chosen_processor(shape: Shape, last: &[u64; layout::LAST], colour: Colour, start: u64) -> u64
     requires { Processors shape }
     ensures { (J : Job) (L : Entries) → result ≡

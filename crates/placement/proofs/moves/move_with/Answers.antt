@@ -1,12 +1,23 @@
--- `move_with` meets its contract.
-use mathlib.Core.Path.{◌∙◌}
+-- `move_with` meets its contract: a file that crosses takes some time to move.
+use mathlib.Core.Path.{refl, ◌∙◌}
+use native.Mathlib.Omega.{arith}
+use borrow.Author.Tests.{lt-ltb, le-ltb}
 use Rattle.model.specs.Colours.{as_colour}
 use Rattle.model.specs.Layout.{entries_of}
 use Rattle.placement.proofs.MoveLaws.{move-from}
 use Rattle.placement.proofs.moves.move_with.Goals as goal
 
+pub returns-then-takes-eq0 : goal.returns-then-takes-eq0
+returns-then-takes-eq0 c =
+    let t = c.args.trial in
+    let m = move-from c.args.job.now.in_bounds (entries_of c.args.schedule.now) c.requires t.task (as_colour t.colour) t.start
+    c.cost_for-cost.ensures.cost_of.move_time refl c.move_start.ensures in
+    rw (le-ltb 0 c.cost_for-cost.result.move_time (omega arith)) at m
+
 pub returns : goal.returns
 returns c =
-    c.select.ensures.value
-    ∙ move-from c.args.job.now.in_bounds (entries_of c.args.schedule.now) c.requires c.args.trial.task (as_colour c.args.trial.colour) c.args.trial.start
-    c.cost_for-cost.ensures.cost_of.move_time c.saturating_sub-departs.ensures c.move_start-before.ensures
+    let t = c.args.trial in
+    let L = entries_of c.args.schedule.now in
+    let m = move-from c.args.job.now.in_bounds L c.requires t.task (as_colour t.colour) t.start {u = L.move_start c.args.k}
+    c.cost_for-cost.ensures.cost_of.move_time c.saturating_sub.ensures refl in
+    rw (lt-ltb 0 c.cost_for-cost.result.move_time (omega (arith, c.if-takes-eq0.false))) at m

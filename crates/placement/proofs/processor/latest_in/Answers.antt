@@ -1,23 +1,31 @@
-use mathlib.Core.Path.{◌∙◌}
 use Rattle.placement.proofs.SlotLaws.{latest-total}
-use mathlib.Core.Path.{sym}
+use mathlib.Core.Path.{refl, sym, ◌∙◌}
 use native.Mathlib.Omega.{arith}
+use borrow.Author.Tests.{le-leb, lt-leb}
 use Rattle.model.proofs.StepLaws.{max_none}
 use Rattle.placement.proofs.SlotLaws.{latest-turn}
 use Rattle.placement.proofs.processor.latest_in.Goals as goal
+use Rattle.placement.proofs.processor.latest_in.Goals.{then-finish-start, else-finish-start}
 
 pub loop-p-init : goal.loop-p-init
 loop-p-init c = (c.count_in-n.ensures, sym (max_none _))
 
 pub loop-p-preserved : goal.loop-p-preserved
 loop-p-preserved c =
-    omega (
-      arith,
-      c.loop-p.invariant.0,
-      c.loop-p.invariant.1,
-      latest-turn c.args.shape c.args.last.now c.args.colour c.args.start c.loop-p.p
-          c.value_if.result c.last_in-finish.result c.last_in-finish.ensures c.value_if.ensures.value,
-    )
+    let a = c.args in
+    let f = c.last_in-finish.result in
+    elim c.if-finish-start.branch [
+      | then-finish-start w ↦ omega (
+        arith,
+        latest-turn a.shape a.last.now a.colour a.start c.loop-p.p f f c.last_in-finish.ensures
+            (rw (le-leb f a.start w.if-finish-start.true) refl),
+      )
+      | else-finish-start w ↦ omega (
+        arith,
+        latest-turn a.shape a.last.now a.colour a.start c.loop-p.p 0 f c.last_in-finish.ensures
+            (rw (lt-leb f a.start w.if-finish-start.false) refl),
+      )
+    ]
 
 pub returns : goal.returns
 returns c =
