@@ -1,10 +1,7 @@
 // Which files move, and what a file costs a task that reads it, by the colours that a schedule gives. The schedule may be partial, and its
 // ticks in no range.
-ghost use Rattle.std.specs.Prelude.{◌≡◌, ◌<◌, ◌≤◌};
-ghost use Rattle.rules.specs.Limits.{move_times, file_sizes};
+ghost use Rattle.std.specs.Prelude.{◌≡◌, ◌<◌};
 ghost use Rattle.rules.specs.Model.{moved};
-ghost use Rattle.model.specs.Colours.{as_colour};
-ghost use Rattle.model.specs.Costs.{CostOf};
 ghost use Rattle.model.specs.Layout.{instance_of, schedule_of, JobInBounds};
 
 use super::colour::{Colour, cost_between};
@@ -98,24 +95,4 @@ pub fn moves<'a>(
         numbers: job,
     };
     whole.moves(schedule, k)
-}
-
-pub fn cost_for<'a>(
-    shape: Shape,
-    job: &'a layout::Numbers,
-    schedule: &'a layout::Schedule,
-    k: usize,
-    task: u64,
-    colour: Colour,
-) -> Cost
-    requires job_in_bounds { JobInBounds shape job.now }
-    requires k_lt_files { k < shape.files }
-    ensures cost_of { CostOf (instance_of shape job.now) (schedule_of shape schedule.now) task (as_colour colour) k result }
-    ensures move_time_bound { (result.move_time ≤ move_times.most) × (result.newly_held ≤ file_sizes.most) }
-{
-    let whole = Job {
-        shape,
-        numbers: job,
-    };
-    whole.cost_for(schedule, k, task as usize, colour)
 }

@@ -1,6 +1,5 @@
-// Where the numbers of an instance and of a schedule stand: a job array and a schedule array, beside a shape of plain numbers.
-// The places are known here only: other modules read and write the arrays by the functions below.
-ghost use Rattle.std.specs.Prelude.{◌≡◌, ◌<◌, ◌≤◌, max, length, set};
+// The numbers of an instance and of a schedule as records: tasks, files, runs and move starts, beside a shape of plain numbers.
+ghost use Rattle.std.specs.Prelude.{◌≡◌, ◌<◌, ◌≤◌, max};
 ghost use Rattle.rules.specs.Limits.{max_tasks, max_files};
 ghost use Rattle.model.specs.Colours.{as_colour, by_colour};
 ghost use Rattle.model.specs.Layout.{JobInBounds, job_of, entries_of, colour_at};
@@ -195,14 +194,6 @@ pub fn colour_of(shape: Shape, schedule: &Schedule, i: usize) -> Colour
     } else {
         Colour::Red
     }
-}
-
-// Stores a number. Lent as a slice, an array shows how long it is.
-pub fn store(array: &mut [u64], at: usize, number: u64)
-    requires { at < length array.old }
-    ensures { array.new ≡ set array.old at number }
-{
-    array[at] = number;
 }
 
 // Writes the run times and the working memory of task i.

@@ -1,8 +1,7 @@
 // When a memory holds a file, or a task's working memory: document 01's hold rule with Orders 1 and 6, for partial schedules too.
 ghost use Rattle.std.specs.Prelude.{◌≡◌, ◌<◌, ◌≤◌, ℕ};
 ghost use Rattle.rules.specs.Model.{finish_at};
-ghost use Rattle.rules.specs.Residency.{covers as rules-covers, open_hold, hold_of, work_of};
-ghost use Rattle.model.specs.Colours.{as_colour};
+ghost use Rattle.rules.specs.Residency.{covers as rules-covers, open_hold};
 ghost use Rattle.model.specs.Layout.{instance_of, schedule_of, InBounds, last_tick};
 ghost use Rattle.model.specs.Holds.{as_hold, Within, closed_by, TimesOf, TimesWithin};
 
@@ -218,56 +217,4 @@ pub fn file_times<'a>(
         schedule,
     };
     whole.file_times(k)
-}
-
-pub fn hold_of<'a>(
-    shape: Shape,
-    job: &'a layout::Numbers,
-    schedule: &'a layout::Schedule,
-    k: usize,
-    colour: Colour,
-) -> Hold
-    requires in_bounds { InBounds shape job.now schedule.now }
-    requires k_lt_files { k < shape.files }
-    ensures result_value { as_hold result ≡
-        hold_of (instance_of shape job.now) (schedule_of shape schedule.now) (as_colour colour) k }
-    ensures within { Within last_tick result }
-{
-    let whole = Timetable {
-        job: Job {
-            shape,
-            numbers: job,
-        },
-        schedule,
-    };
-    whole.hold_of(k, colour)
-}
-
-pub fn work_hold<'a>(
-    shape: Shape,
-    job: &'a layout::Numbers,
-    schedule: &'a layout::Schedule,
-    i: usize,
-    colour: Colour,
-) -> Hold
-    requires in_bounds { InBounds shape job.now schedule.now }
-    requires i_lt_tasks { i < shape.tasks }
-    ensures result_value { as_hold result ≡
-        work_of (instance_of shape job.now) (schedule_of shape schedule.now) (as_colour colour) i }
-    ensures within { Within last_tick result }
-{
-    let whole = Timetable {
-        job: Job {
-            shape,
-            numbers: job,
-        },
-        schedule,
-    };
-    whole.work_hold(i, colour)
-}
-
-pub fn covers(h: Hold, t: u64) -> bool
-    ensures { result ≡ rules-covers (as_hold h) t }
-{
-    h.covers(t)
 }

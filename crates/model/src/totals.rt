@@ -1,13 +1,5 @@
 // How much a memory holds: the sums of the holds of residency.rt.
-ghost use Rattle.std.specs.Prelude.{◌≡◌, ◌≤◌};
-ghost use Rattle.rules.specs.Residency.{held};
-ghost use Rattle.model.specs.Colours.{as_colour};
-ghost use Rattle.model.specs.Layout.{instance_of, schedule_of, InBounds, most_held};
-
 use super::colour::Colour;
-use super::job::Job;
-use super::layout;
-use super::layout::Shape;
 use super::timetable::Timetable;
 
 impl Timetable<'_> {
@@ -31,7 +23,8 @@ impl Timetable<'_> {
         sum
     }
 
-    // The working memory held in the memory of the colour at tick t.
+    // The working memory held in the memory of the colour at tick t. One function for this and the files would take closures, and clauses as
+    // long as both.
     fn work_held(&self, colour: Colour, t: u64) -> u64
         ensures value { result ≡ work_held (instance_in self.now.job) (schedule_in self.now) (as_colour colour) t }
         ensures upper_bound { result ≤ most_work }
@@ -52,26 +45,4 @@ impl Timetable<'_> {
     {
         self.files_held(colour, t) + self.work_held(colour, t)
     }
-}
-
-pub fn held_at<'a>(
-    shape: Shape,
-    job: &'a layout::Numbers,
-    schedule: &'a layout::Schedule,
-    colour: Colour,
-    t: u64,
-) -> u64
-    requires { InBounds shape job.now schedule.now }
-    ensures value { result ≡
-        held (instance_of shape job.now) (schedule_of shape schedule.now) (as_colour colour) t }
-    ensures upper_bound { result ≤ most_held }
-{
-    let whole = Timetable {
-        job: Job {
-            shape,
-            numbers: job,
-        },
-        schedule,
-    };
-    whole.held_at(colour, t)
 }

@@ -91,7 +91,7 @@ fn next_of_file(t: &Timetable, k: usize, from: u64) -> Option<u64>
     sooner(moving, held)
 }
 
-// The next of all tasks.
+// The next of all tasks. One function for these and the files would take a closure, and clauses as long as both.
 fn next_of_tasks(t: &Timetable, from: u64) -> Option<u64>
     ensures { Soonest
         (λ u. any_below (task_count (instance_in t.now.job)) (task_turns (instance_in t.now.job) (schedule_in t.now) u)) from result }
