@@ -1,5 +1,5 @@
 -- The text of a board sheet as pieces: the board's line, a line for each task and a line for each file.
-use Prim.Native.Nat.{ℕ, suc, ◌+◌, ◌≤◌, ◌<◌}
+use Prim.Native.Nat.{ℕ, suc, ◌+◌, ◌≤◌}
 use mathlib.Core.Path.{◌≡◌, ◌∙◌}
 use mathlib.Core.List.{List, [], ◌∷◌, ◌++◌, append_assoc}
 use native.Mathlib.Numerals.{add-one}
@@ -14,7 +14,7 @@ use Rattle.text.proofs.SizeLaws.{three-length}
 use Rattle.text.proofs.LaidLaws.{Fits, three-fit}
 use Rattle.model.specs.declared.layout.Shape.{Shape}
 use Rattle.model.specs.Layout.{Job, instance_from}
-use Rattle.model.proofs.LayoutLaws.{task-count, file-count, task-at, file-at}
+use Rattle.model.proofs.LayoutLaws.{task-count, file-count}
 
 -- ---- a task's line, by whether W is left out
 module _ (i b r w : ℕ) where
@@ -40,15 +40,16 @@ pub files-grow : (I : Instance) (k : ℕ) → file_lines I (suc k) ≡ file_line
 files-grow I k = files-next I k ∙ append_assoc (file_lines I k) (instance_bytes (file_said (file_at I k))) lf
 
 -- ---- from what the code reads
+module _ (I : Instance) where
+  pub task-piece : (i x y w : ℕ) → x ≡ (task_at I i).on_blue → y ≡ (task_at I i).on_red → w ≡ (task_at I i).work
+      → instance_bytes (task_line (i + 1) (record { on_blue = x; on_red = y; work = w })) ++ lf ≡ task_piece I i
+  task-piece i x y w p q r = rw (add-one i, p, q, r)
+
+  pub file-piece : (k m d s t : ℕ) → m ≡ (file_at I k).maker → d ≡ (file_at I k).reader → s ≡ (file_at I k).size → t ≡ (file_at I k).move_time
+      → instance_bytes (file_line (m + 1) (d + 1) s t) ++ lf ≡ file_piece I k
+  file-piece k m d s t p q u v = rw (p, q, u, v, add-one (file_at I k).maker, add-one (file_at I k).reader)
+
 module _ (b : Shape) (J : Job) where
-  pub task-piece : {i : ℕ} → i < b.tasks → (x y w : ℕ) → x ≡ J.on_blue i → y ≡ J.on_red i → w ≡ J.work i
-      → instance_bytes (task_line (i + 1) (record { on_blue = x; on_red = y; work = w })) ++ lf ≡ task_piece (instance_from b J) i
-  task-piece {i} h x y w p q r = rw (add-one i, p, q, r, task-at b J i h)
-
-  pub file-piece : {k : ℕ} → k < b.files → (m d s t : ℕ) → m ≡ J.maker k → d ≡ J.reader k → s ≡ J.size k → t ≡ J.move_time k
-      → instance_bytes (file_line (m + 1) (d + 1) s t) ++ lf ≡ file_piece (instance_from b J) k
-  file-piece {k} h m d s t p q u v = rw (p, q, u, v, add-one (J.maker k), add-one (J.reader k), file-at b J k h)
-
   -- ---- the whole text
   abbrev I : Instance
   I = instance_from b J

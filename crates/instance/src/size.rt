@@ -3,13 +3,12 @@ ghost use Rattle.std.specs.Prelude.{◌≡◌, ◌++◌, ◌*◌, ◌≤◌, len
 ghost use Rattle.rules.specs.Limits.{max_tasks, max_files};
 ghost use Rattle.rules.specs.Text.{lf};
 ghost use Rattle.rules.specs.InstanceText.{board_line, task_line, file_line, instance_bytes, task_lines, file_lines, instance_text};
-ghost use Rattle.model.specs.Layout.{instance_of, JobInBounds};
+ghost use Rattle.model.specs.Jobs.{instance_in};
 ghost use Rattle.instance.specs.Sizes.{longest};
 
 use crate::line::{BOARD_FORM, FILE_FORM, TASK_FORM, WORK_FORM};
 use model::colour::Colour;
-use model::layout;
-use model::layout::Shape;
+use model::job::Job;
 
 // The bytes of the board's line.
 fn board_size(blue: u64, bound: u64, red: u64, limit: u64) -> usize
@@ -44,48 +43,40 @@ fn file_size(i: u64, j: u64, size: u64, time: u64) -> usize
 }
 
 // The bytes of all tasks' lines.
-fn tasks_size(shape: Shape, job: &layout::Numbers) -> usize
-    requires { shape.tasks ≤ max_tasks }
-    ensures value { result ≡ length (task_lines (instance_of shape job.now) shape.tasks) }
+fn tasks_size(job: &Job<'_>) -> usize
+    ensures value { result ≡ length (task_lines (instance_in job.now) job.now.shape.tasks) }
     ensures upper_bound { result ≤ longest * max_tasks }
 {
-    let mut n: usize = 0;
-    let mut i: usize = 0;
-    while i < shape.tasks {
-        let blue = layout::run_time(job, i, Colour::Blue);
-        let red = layout::run_time(job, i, Colour::Red);
-        n += task_size((i + 1) as u64, blue, red, layout::work(job, i));
-        i += 1;
+    let mut n = 0;
+    for i in 0..job.shape.tasks {
+        let blue = job.run_time(i, Colour::Blue);
+        let red = job.run_time(i, Colour::Red);
+        n += task_size(i as u64 + 1, blue, red, job.work(i));
     }
     n
 }
 
 // The bytes of all files' lines.
-fn files_size(shape: Shape, job: &layout::Numbers) -> usize
-    requires { JobInBounds shape job.now }
-    ensures value { result ≡ length (file_lines (instance_of shape job.now) shape.files) }
+fn files_size(job: &Job<'_>) -> usize
+    ensures value { result ≡ length (file_lines (instance_in job.now) job.now.shape.files) }
     ensures upper_bound { result ≤ longest * max_files }
 {
-    let mut n: usize = 0;
-    let mut k: usize = 0;
-    while k < shape.files {
-        let maker = layout::maker(shape, job, k);
-        let reader = layout::reader(shape, job, k);
-        let size = layout::size(job, k);
-        n += file_size(maker + 1, reader + 1, size, layout::move_time(job, k));
-        k += 1;
+    let mut n = 0;
+    for k in 0..job.shape.files {
+        let maker = job.maker(k) as u64;
+        let reader = job.reader(k) as u64;
+        n += file_size(maker + 1, reader + 1, job.size(k), job.move_time(k));
     }
     n
 }
 
 // The bytes of a board sheet.
-pub fn instance_size(shape: Shape, job: &layout::Numbers) -> usize
-    requires { JobInBounds shape job.now }
-    ensures { result ≡ length (instance_text (instance_of shape job.now)) }
+pub fn instance_size(job: &Job<'_>) -> usize
+    ensures { result ≡ length (instance_text (instance_in job.now)) }
 {
-    let blue = shape.board.blue;
-    let red = shape.board.red;
+    let blue = job.shape.board.blue;
+    let red = job.shape.board.red;
     let first = board_size(blue.processors, blue.limit, red.processors, red.limit);
-    let tasks = tasks_size(shape, job);
-    first + tasks + files_size(shape, job)
+    let tasks = tasks_size(job);
+    first + tasks + files_size(job)
 }

@@ -1,16 +1,14 @@
 // Writes a board sheet: each line behind the lines already laid down.
 ghost use Rattle.std.specs.Prelude.{◌++◌, ◌≤◌, length};
 ghost use Rattle.rules.specs.BoardType.{side_from};
-ghost use Rattle.rules.specs.Limits.{max_tasks};
 ghost use Rattle.rules.specs.Text.{lf};
 ghost use Rattle.rules.specs.InstanceText.{board_line, task_line, file_line, instance_bytes, task_lines, file_lines, instance_text};
 ghost use Rattle.text.specs.Wrote.{Wrote};
-ghost use Rattle.model.specs.Layout.{instance_of, JobInBounds};
+ghost use Rattle.model.specs.Jobs.{instance_in};
 
 use crate::line::{BOARD_FORM, FILE_FORM, TASK_FORM, WORK_FORM};
 use model::colour::Colour;
-use model::layout;
-use model::layout::Shape;
+use model::job::Job;
 use rules::Board;
 
 // Writes the board's line at the front of `out`, and returns how many bytes that takes; so do all writers here.
@@ -51,54 +49,46 @@ fn write_file(out: &mut [u8], i: u64, j: u64, size: u64, time: u64) -> usize
 }
 
 // Writes the tasks' lines.
-fn write_tasks(shape: Shape, job: &layout::Numbers, out: &mut [u8]) -> usize
-    requires tasks_le_max_tasks { shape.tasks ≤ max_tasks }
-    requires text_fits { length (task_lines (instance_of shape job.now) shape.tasks) ≤ length out.old }
-    ensures { Wrote (task_lines (instance_of shape job.now) shape.tasks) result out.old out.new }
+fn write_tasks(job: &Job<'_>, out: &mut [u8]) -> usize
+    requires { length (task_lines (instance_in job.now) job.now.shape.tasks) ≤ length out.old }
+    ensures { Wrote (task_lines (instance_in job.now) job.now.shape.tasks) result out.old out.new }
 {
-    let mut at: usize = 0;
-    let mut i: usize = 0;
-    while i < shape.tasks {
-        let blue = layout::run_time(job, i, Colour::Blue);
-        let red = layout::run_time(job, i, Colour::Red);
-        let work = layout::work(job, i);
-        let written = write_task(&mut out[at..], (i + 1) as u64, blue, red, work);
+    let mut at = 0;
+    for i in 0..job.shape.tasks {
+        let blue = job.run_time(i, Colour::Blue);
+        let red = job.run_time(i, Colour::Red);
+        let work = job.work(i);
+        let written = write_task(&mut out[at..], i as u64 + 1, blue, red, work);
         at += written;
-        i += 1;
     }
     at
 }
 
 // Writes the files' lines.
-fn write_files(shape: Shape, job: &layout::Numbers, out: &mut [u8]) -> usize
-    requires job_in_bounds { JobInBounds shape job.now }
-    requires text_fits { length (file_lines (instance_of shape job.now) shape.files) ≤ length out.old }
-    ensures { Wrote (file_lines (instance_of shape job.now) shape.files) result out.old out.new }
+fn write_files(job: &Job<'_>, out: &mut [u8]) -> usize
+    requires { length (file_lines (instance_in job.now) job.now.shape.files) ≤ length out.old }
+    ensures { Wrote (file_lines (instance_in job.now) job.now.shape.files) result out.old out.new }
 {
-    let mut at: usize = 0;
-    let mut k: usize = 0;
-    while k < shape.files {
-        let maker = layout::maker(shape, job, k);
-        let reader = layout::reader(shape, job, k);
-        let size = layout::size(job, k);
-        let time = layout::move_time(job, k);
+    let mut at = 0;
+    for k in 0..job.shape.files {
+        let maker = job.maker(k) as u64;
+        let reader = job.reader(k) as u64;
+        let size = job.size(k);
+        let time = job.move_time(k);
         let written = write_file(&mut out[at..], maker + 1, reader + 1, size, time);
         at += written;
-        k += 1;
     }
     at
 }
 
 // Writes a board sheet.
-pub fn write(shape: Shape, job: &layout::Numbers, out: &mut [u8]) -> usize
-    requires job_in_bounds { JobInBounds shape job.now }
-    requires text_fits { length (instance_text (instance_of shape job.now)) ≤ length out.old }
-    ensures { Wrote (instance_text (instance_of shape job.now)) result out.old out.new }
+pub fn write(job: &Job<'_>, out: &mut [u8]) -> usize
+    requires { length (instance_text (instance_in job.now)) ≤ length out.old }
+    ensures { Wrote (instance_text (instance_in job.now)) result out.old out.new }
 {
-    let board = shape.board;
-    let board_end = write_board(out, board);
-    let tasks = write_tasks(shape, job, &mut out[board_end..]);
+    let board_end = write_board(out, job.shape.board);
+    let tasks = write_tasks(job, &mut out[board_end..]);
     let tasks_end = board_end + tasks;
-    let files = write_files(shape, job, &mut out[tasks_end..]);
+    let files = write_files(job, &mut out[tasks_end..]);
     tasks_end + files
 }

@@ -11,6 +11,7 @@ ghost use Rattle.planner.specs.Outcomes.{as_planner};
 ghost use Rattle.plan_text.specs.Answers.{as_answer};
 
 use model::claim::Claim;
+use model::job::Job;
 use model::layout;
 use model::layout::Shape;
 use planner::Rule;
@@ -43,7 +44,11 @@ pub fn write_plan<'a>(
     ensures { as_answer result out.new ≡
         written (plan_text (instance_of shape job.now) (schedule_of shape schedule.now)) out.old trials }
 {
-    let size = schedule::schedule_size(shape, job, schedule, claim);
+    let lent = Job {
+        shape,
+        numbers: job,
+    };
+    let size = schedule::schedule_size(&lent, schedule, claim);
     if out.len() < size {
         return Answer {
             number: Answer::SHORT,
@@ -51,7 +56,7 @@ pub fn write_plan<'a>(
             trials,
         };
     }
-    let end = schedule::write(shape, job, schedule, claim, out);
+    let end = schedule::write(&lent, schedule, claim, out);
     Answer {
         number: 0,
         place: end as u64,

@@ -5,7 +5,7 @@ use mathlib.Core.Bool.{true, false}
 use mathlib.Core.List.{List, [], ◌++◌, append_assoc}
 use native.Mathlib.Numerals.{add-one}
 use lib.ListN.{length}
-use Rattle.rules.specs.Model.{Instance, Schedule, run_at, move_at, moved}
+use Rattle.rules.specs.Model.{Instance, Schedule, file_at, run_at, move_at, moved}
 use Rattle.rules.specs.Text.{lf}
 use Rattle.rules.specs.Validity.{Claim}
 use Rattle.rules.specs.ScheduleText.{run_line, move_line, claim_line, schedule_bytes, run_lines, move_lines, schedule_text}
@@ -14,7 +14,7 @@ use Rattle.text.proofs.SizeLaws.{three-length}
 use Rattle.text.proofs.LaidLaws.{Fits, three-fit}
 use Rattle.model.specs.declared.layout.Shape.{Shape}
 use Rattle.model.specs.Layout.{Job, Entries, instance_from, schedule_from}
-use Rattle.model.proofs.LayoutLaws.{task-count, file-count, maker-at, reader_at, run-at, move-at}
+use Rattle.model.proofs.LayoutLaws.{task-count, file-count, run-at, move-at}
 
 -- the piece of task i, and the piece of file k
 abbrev pub run_piece : Schedule → ℕ → List ℕ
@@ -34,12 +34,12 @@ pub run-piece : (b : Shape) (L : Entries) {i : ℕ} → i < b.tasks → (p s : �
     → schedule_bytes (run_line (i + 1) (record { processor = p; start = s })) ++ lf ≡ run_piece (schedule_from b L) i
 run-piece b L {i} h p s u v = rw (add-one i, u, v, run-at b L i h)
 
-module _ (b : Shape) (J : Job) (L : Entries) {k : ℕ} (h : k < b.files) where
-  pub move-piece : (m d t : ℕ) → m ≡ J.maker k → d ≡ J.reader k → t ≡ L.move_start k → moved (instance_from b J) (schedule_from b L) k ≡ true
-      → schedule_bytes (move_line (m + 1) (d + 1) t) ++ lf ≡ move_piece (instance_from b J) (schedule_from b L) k
-  move-piece m d t u v w e = rw (e, maker-at b J k h, reader_at b J k h, move-at b L k h, u, v, w, add-one (J.maker k), add-one (J.reader k))
+module _ (I : Instance) (b : Shape) (L : Entries) {k : ℕ} (h : k < b.files) where
+  pub move-piece : (m d t : ℕ) → m ≡ (file_at I k).maker → d ≡ (file_at I k).reader → t ≡ L.move_start k → moved I (schedule_from b L) k ≡ true
+      → schedule_bytes (move_line (m + 1) (d + 1) t) ++ lf ≡ move_piece I (schedule_from b L) k
+  move-piece m d t u v w e = rw (e, move-at b L k h, u, v, w, add-one (file_at I k).maker, add-one (file_at I k).reader)
 
-  pub no-piece : moved (instance_from b J) (schedule_from b L) k ≡ false → move_piece (instance_from b J) (schedule_from b L) k ≡ []
+  pub no-piece : moved I (schedule_from b L) k ≡ false → move_piece I (schedule_from b L) k ≡ []
   no-piece e = rw e
 
 -- ---- the whole text

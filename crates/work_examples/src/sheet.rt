@@ -1,6 +1,7 @@
 // A sheet with W, and what was read of it written in the same forms: the same bytes.
 ghost use Rattle.model.specs.Layout.{JobInBounds};
 
+use model::job::Job;
 use model::layout;
 use model::layout::Shape;
 use std::io::Result;
@@ -10,8 +11,12 @@ fn print_sheet(rt: &impl Print, shape: Shape, job: &layout::Numbers) -> Result<(
     requires { JobInBounds shape job.now }
 {
     let mut out = io::buffer();
-    if instance::instance_size(shape, job) <= out.len() {
-        let n = instance::write(shape, job, &mut out);
+    let lent = Job {
+        shape,
+        numbers: job,
+    };
+    if instance::instance_size(&lent) <= out.len() {
+        let n = instance::write(&lent, &mut out);
         rt.write_all(&out[..n])?;
     }
     Ok(())

@@ -16,10 +16,7 @@ returns-then-out-size c =
     too_short text c.args.out.now c.args.trials size c.if-out-size.true
 
 pub write-end-requires : goal.write-end-requires
-write-end-requires c = record {
-  job_in_bounds = c.requires.job_in_bounds;
-  claim_in_bounds = omega (arith, c.schedule_size-size.ensures, c.if-out-size.false);
-}
+write-end-requires c = omega (arith, c.schedule_size-size.ensures, c.if-out-size.false)
 
 pub returns : goal.returns
 returns c =

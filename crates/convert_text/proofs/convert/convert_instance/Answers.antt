@@ -42,13 +42,13 @@ widened-requires c =
     let k = is-converted b J _ e c.args.out.now (output (converted_text (instance_from b J)) c.args.out.now) c.refusal-number.ensures c.if-number-ne0.false in
     fits b J _ e k.0
 
-pub write_sheet-requires : goal.write_sheet-requires
-write_sheet-requires c =
+pub invariant_of-converted : goal.invariant_of-converted
+invariant_of-converted c =
     let b = c.args.shape in
     let J = job_of c.args.job.now in
     let e = c.added-more.ensures.value in
     let k = is-converted b J _ e c.args.out.now (output (converted_text (instance_from b J)) c.args.out.now) c.refusal-number.ensures c.if-number-ne0.false in
-    wide_bounds b _ J _ _ c.widened.ensures c.convert.ensures c.requires k.0
+    record { in_bounds = wide_bounds b _ J _ _ c.widened.ensures c.convert.ensures c.requires k.0 }
 
 pub returns : goal.returns
 returns c =

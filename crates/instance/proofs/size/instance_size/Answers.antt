@@ -5,4 +5,4 @@ use Rattle.instance.proofs.size.instance_size.Goals as goal
 
 pub returns : goal.returns
 returns c =
-    text-length c.args.shape (job_of c.args.job.now) _ _ _ c.board_size-first.ensures.value c.tasks_size-tasks.ensures.value c.files_size.ensures.value
+    text-length c.args.job.now.shape (job_of c.args.job.now.numbers.now) _ _ _ c.board_size-first.ensures.value c.tasks_size-tasks.ensures.value c.files_size.ensures.value

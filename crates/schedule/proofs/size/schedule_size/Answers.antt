@@ -6,5 +6,5 @@ use Rattle.schedule.proofs.size.schedule_size.Goals as goal
 
 pub returns : goal.returns
 returns c =
-    text-length c.args.shape (job_of c.args.job.now) (entries_of c.args.schedule.now) (as_claim c.args.claim) _ _ _
+    text-length c.args.job.now.shape (job_of c.args.job.now.numbers.now) (entries_of c.args.schedule.now) (as_claim c.args.claim) _ _ _
     c.runs_size-runs.ensures.value c.moves_size-moves.ensures.value c.claim_size.ensures.value
