@@ -1,7 +1,7 @@
 -- How many tasks have W, and how many of the first i.
 use Prim.Native.Nat.{ℕ, ◌+◌, ◌<◌}
-use mathlib.Core.Bool.{cond, true}
-use mathlib.Core.Path.{◌≡◌, refl, sym, ap, ◌∙◌}
+use mathlib.Core.Bool.{true}
+use mathlib.Core.Path.{◌≡◌, sym, ap, ◌∙◌}
 use native.Mathlib.Omega.{arith}
 use native.Mathlib.Numerals.{add-one}
 use lib.Dec.{ltb}
@@ -13,7 +13,6 @@ use Rattle.rules.proofs.WhereLaws.{length-where, count_yes, count_no, count-mono
 use Rattle.model.specs.declared.layout.Shape.{Shape}
 use Rattle.model.specs.Layout.{Job, instance_from}
 use Rattle.model.proofs.LayoutLaws.{task-count, work-at}
-use Rattle.model.proofs.StepLaws.{sum-turn}
 
 module _ (b : Shape) (J : Job) where
   abbrev I : Instance
@@ -33,9 +32,6 @@ module _ (b : Shape) (J : Job) where
   module _ {i : ℕ} (h : i < b.tasks) {w : ℕ} (e : w ≡ J.work i) where
     work-read : ltb 0 w ≡ has_work I i
     work-read = ap (λ x. ltb 0 x) (e ∙ sym (work-at b J i h))
-
-    pub count_turn : {r : ℕ} → r ≡ cond (ltb 0 w) 1 0 → count_to (i + 1) ≡ count_to i + r
-    count_turn q = sum-turn i (has_work I) (λ _. 1) q work-read refl
 
     -- a task without W is not counted
     pub count-without : w ≡ 0 → count_to i ≡ count_to (i + 1)

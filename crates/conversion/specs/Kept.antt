@@ -1,5 +1,5 @@
 -- What a schedule array has of a schedule of the converted job.
-use Rattle.std.specs.Prelude.{ℕ, ◌+◌, ◌≡◌, List}
+use Rattle.std.specs.Prelude.{ℕ, ◌+◌, ◌≡◌}
 use Rattle.rules.specs.Count.{list_below}
 use Rattle.model.specs.declared.layout.Schedule.{Schedule as StoredSchedule}
 use Rattle.model.specs.Layout.{entries_of, run_from}

@@ -1,5 +1,5 @@
 -- What a job array holds of the converted job.
-use Rattle.std.specs.Prelude.{ℕ, ◌≡◌, List}
+use Rattle.std.specs.Prelude.{ℕ, ◌≡◌}
 use Rattle.rules.specs.Count.{list_below}
 use Rattle.rules.specs.Model.{Instance, task_at, file_at}
 use Rattle.rules.specs.Conversion.{converted}

@@ -5,7 +5,6 @@ ghost use Rattle.rules.specs.Conversion.{added_count};
 ghost use Rattle.model.specs.Layout.{instance_of};
 ghost use Rattle.conversion.specs.Widened.{widened as widened-shape};
 
-use model::choice::value_if;
 use model::layout;
 use model::layout::Shape;
 
@@ -15,11 +14,12 @@ pub fn added(shape: Shape, job: &layout::Numbers) -> usize
     ensures value { result ≡ added_count (instance_of shape job.now) }
     ensures upper_bound { result ≤ shape.tasks }
 {
-    let mut count: usize = 0;
-    let mut i: usize = 0;
-    while i < shape.tasks {
-        count += value_if(0 < layout::work(job, i), 1) as usize;
-        i += 1;
+    let mut count = 0;
+    for i in 0..shape.tasks {
+        let work = layout::work(job, i);
+        if work != 0 {
+            count += 1;
+        }
     }
     count
 }
@@ -29,10 +29,9 @@ pub fn widened(shape: Shape, added: usize) -> Shape
     requires { (added + shape.tasks ≤ max_tasks) × (added + shape.files ≤ max_files) }
     ensures { result ≡ widened-shape shape added }
 {
-    let board = shape.board;
     Shape {
         tasks: added + shape.tasks,
         files: added + shape.files,
-        board,
+        board: shape.board,
     }
 }

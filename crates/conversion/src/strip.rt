@@ -15,12 +15,10 @@ fn strip_runs(shape: Shape, added: usize, from: &layout::Schedule, to: &mut layo
     requires { added + shape.tasks ≤ max_tasks }
     ensures { Kept added from.now to.new shape.tasks 0 }
 {
-    let mut i: usize = 0;
-    while i < shape.tasks {
+    for i in 0..shape.tasks {
         let processor = layout::processor(from, added + i);
         let start = layout::start(from, added + i);
         layout::set_run(to, i, processor, start);
-        i += 1;
     }
 }
 
@@ -30,11 +28,9 @@ fn strip_moves(shape: Shape, added: usize, from: &layout::Schedule, to: &mut lay
     requires kept { Kept added from.now to.old shape.tasks 0 }
     ensures { Kept added from.now to.new shape.tasks shape.files }
 {
-    let mut k: usize = 0;
-    while k < shape.files {
+    for k in 0..shape.files {
         let start = layout::move_start(from, added + k);
         layout::set_move_start(to, k, start);
-        k += 1;
     }
 }
 

@@ -44,7 +44,11 @@ pub fn convert_instance(shape: Shape, job: &layout::Numbers, out: &mut [u8]) -> 
         return Converted { number, place: 0 };
     }
     let mut wide = layout::Numbers::new();
-    convert(shape, job, more, &mut wide);
+    let lent = Job {
+        shape,
+        numbers: job,
+    };
+    convert(&lent, more, &mut wide);
     let converted = Job {
         shape: widened(shape, more),
         numbers: &wide,

@@ -17,6 +17,7 @@ use conversion::job::convert;
 use conversion::strip::strip;
 use mark_text::mark_into;
 use model::claim::Claim;
+use model::job::Job;
 use model::layout;
 use model::layout::Shape;
 use model::span::makespan;
@@ -82,7 +83,11 @@ fn strip_marked<'a>(
         (read_schedule (converted (instance_of shape job.now)) paper.now) }
 {
     let mut wide = layout::Numbers::new();
-    convert(shape, job, more, &mut wide);
+    let lent = Job {
+        shape,
+        numbers: job,
+    };
+    convert(&lent, more, &mut wide);
     let mut schedule = layout::Schedule::new();
     let v = mark_into(widened(shape, more), &wide, paper, &mut schedule);
     if v.number != 0 {

@@ -1,5 +1,5 @@
 -- `add_tasks` meets its contract. The invariant: the tasks passed are stored.
-use Prim.Native.Nat.{◌≤◌, ◌-◌}
+use Prim.Native.Nat.{◌≤◌}
 use mathlib.Core.Path.{◌≡◌}
 use Rattle.rules.specs.Model.{Instance}
 use Rattle.rules.specs.Conversion.{added_count}
@@ -8,6 +8,3 @@ use Rattle.conversion.proofs.job.add_tasks.Given as goal
 
 abbrev pub invariant-loop-k : goal.invariant-loop-k
 invariant-loop-k l = (l.k ≤ l.added) × ((I : Instance) → l.added ≡ added_count I → Stored I l.target l.k 0)
-
-abbrev pub decreases-loop-k : goal.decreases-loop-k
-decreases-loop-k l = l.added - l.k

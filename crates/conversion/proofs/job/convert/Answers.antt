@@ -12,4 +12,4 @@ convert_tasks-requires c = record {
 
 pub returns : goal.returns
 returns c =
-    stored-all c.args.shape (job_of c.args.job.now) c.requires.added_value c.convert_files.ensures
+    stored-all c.args.job.now.shape (job_of c.args.job.now.numbers.now) c.requires.added_value c.convert_files.ensures

@@ -8,7 +8,6 @@ loop-k-init c = (omega arith, stored_at c.requires.stored refl (omega arith))
 
 pub convert_file-requires : goal.convert_file-requires
 convert_file-requires c = record {
-  job_in_bounds = c.requires.job_in_bounds;
   added_value = c.requires.added_value;
   tasks_bound = c.requires.tasks_bound;
   k_lt_files = c.loop-k-test.true;

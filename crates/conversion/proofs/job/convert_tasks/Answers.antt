@@ -25,4 +25,4 @@ loop-i-preserved c =
 
 pub returns : goal.returns
 returns c =
-    stored_at c.loop-i.invariant.2 (omega arith) (count-all c.args.shape (job_of c.args.job.now) (omega arith) c.loop-i.invariant.1 ∙ sym c.requires.added_value)
+    stored_at c.loop-i.invariant.2 (omega arith) (count-all c.args.job.now.shape (job_of c.args.job.now.numbers.now) (omega arith) c.loop-i.invariant.1 ∙ sym c.requires.added_value)

@@ -1,5 +1,5 @@
 -- `convert_tasks` meets its contract. The invariant: the tasks passed are stored, with a file for each that has W.
-use Prim.Native.Nat.{◌+◌, ◌≤◌, ◌-◌}
+use Prim.Native.Nat.{◌+◌, ◌≤◌}
 use mathlib.Core.Path.{◌≡◌}
 use Rattle.model.specs.Layout.{job_of, instance_from}
 use Rattle.conversion.specs.Stored.{Stored}
@@ -8,7 +8,4 @@ use Rattle.conversion.proofs.job.convert_tasks.Given as goal
 
 abbrev pub invariant-loop-i : goal.invariant-loop-i
 invariant-loop-i l =
-    (l.i ≤ l.shape.tasks) × (l.k ≡ count_to l.shape (job_of l.job) l.i) × Stored (instance_from l.shape (job_of l.job)) l.target (l.added + l.i) l.k
-
-abbrev pub decreases-loop-i : goal.decreases-loop-i
-decreases-loop-i l = l.shape.tasks - l.i
+    (l.i ≤ l.job.shape.tasks) × (l.k ≡ count_to l.job.shape (job_of l.job.numbers.now) l.i) × Stored (instance_from l.job.shape (job_of l.job.numbers.now)) l.target (l.added + l.i) l.k

@@ -1,10 +1,7 @@
 -- `strip_moves` meets its contract. The invariant: the moves of the files passed are kept.
-use Prim.Native.Nat.{◌≤◌, ◌-◌}
+use Prim.Native.Nat.{◌≤◌}
 use Rattle.conversion.specs.Kept.{Kept}
 use Rattle.conversion.proofs.strip.strip_moves.Given as goal
 
 abbrev pub invariant-loop-k : goal.invariant-loop-k
-invariant-loop-k l = (l.k ≤ l.shape.files) × Kept l.added l.from l.to l.shape.tasks l.k
-
-abbrev pub decreases-loop-k : goal.decreases-loop-k
-decreases-loop-k l = l.shape.files - l.k
+invariant-loop-k l = (l.k ≤ l.fn.shape.files) × Kept l.added l.from l.to l.fn.shape.tasks l.k

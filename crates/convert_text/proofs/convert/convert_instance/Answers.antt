@@ -23,13 +23,15 @@ returns-then-number-ne0 c =
     let J = job_of c.args.job.now in
     is-refused b J _ c.added-more.ensures.value c.args.out.now (output (converted_text (instance_from b J)) c.args.out.now) c.refusal-number.ensures c.if-number-ne0.true
 
+pub invariant_of-lent : goal.invariant_of-lent
+invariant_of-lent c = record { in_bounds = job-bounds c.args.shape (job_of c.args.job.now) c.requires }
+
 pub convert-requires : goal.convert-requires
 convert-requires c =
     let b = c.args.shape in
     let J = job_of c.args.job.now in
     let e = c.added-more.ensures.value in
     let k = is-converted b J _ e c.args.out.now (output (converted_text (instance_from b J)) c.args.out.now) c.refusal-number.ensures c.if-number-ne0.false in record {
-      job_in_bounds = job-bounds b J c.requires;
       added_value = e;
       tasks_bound = fits b J _ e k.0;
     }

@@ -7,9 +7,11 @@ use Rattle.convert_text.proofs.SheetLaws.{wide-formed}
 use Rattle.convert_text.proofs.LeftLaws.{left-refused, left-made, left-good}
 use Rattle.convert_text.proofs.strip.strip_marked.Goals as goal
 
+pub invariant_of-lent : goal.invariant_of-lent
+invariant_of-lent c = record { in_bounds = job-bounds c.args.shape (job_of c.args.job.now) c.requires.well_formed }
+
 pub convert-requires : goal.convert-requires
 convert-requires c = record {
-  job_in_bounds = job-bounds c.args.shape (job_of c.args.job.now) c.requires.well_formed;
   added_value = c.requires.more_value;
   tasks_bound = c.requires.tasks_bound;
 }
