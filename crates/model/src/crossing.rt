@@ -46,12 +46,12 @@ impl Job<'_> {
         )
     }
 
-    // Whether file k moves: whether its two tasks are of different colours. The runs alone say so: no move start is read.
+    // Whether file k moves: whether its move takes time, since no move time is 0. The runs alone say so: no move start is read.
     pub fn moves(&self, schedule: &layout::Schedule, k: usize) -> bool
         requires { k < self.now.shape.files }
         ensures { result ≡ moved (instance_in self.now) (schedule_of self.now.shape schedule.now) k }
     {
-        self.colour_of(schedule, self.maker(k)) != self.colour_of(schedule, self.reader(k))
+        0 < self.actual_move_time(schedule, k)
     }
 
     // What file k costs the task on the colour: nothing if the task does not read it.
