@@ -1,13 +1,8 @@
 // Which files move, and what a file costs a task that reads it, by the colours that a schedule gives. The schedule may be partial, and its
 // ticks in no range.
-ghost use Rattle.std.specs.Prelude.{◌≡◌, ◌<◌};
-ghost use Rattle.rules.specs.Model.{moved};
-ghost use Rattle.model.specs.Layout.{instance_of, schedule_of, JobInBounds};
-
 use super::colour::{Colour, cost_between};
 use super::job::Job;
 use super::layout;
-use super::layout::Shape;
 
 // What a file costs a task: its actual move time, and what the task's colour must newly hold of it.
 #[derive(Clone, Copy)]
@@ -78,21 +73,4 @@ impl Job<'_> {
             newly_held: cost_between(from, colour, self.size(k)),
         }
     }
-}
-
-pub fn moves<'a>(
-    shape: Shape,
-    job: &'a layout::Numbers,
-    schedule: &'a layout::Schedule,
-    k: usize,
-) -> bool
-    requires job_in_bounds { JobInBounds shape job.now }
-    requires k_lt_files { k < shape.files }
-    ensures { result ≡ moved (instance_of shape job.now) (schedule_of shape schedule.now) k }
-{
-    let whole = Job {
-        shape,
-        numbers: job,
-    };
-    whole.moves(schedule, k)
 }
