@@ -1,30 +1,40 @@
+use Prim.Native.Nat.{ℕ}
+use lib.ListN.{replicate}
 use mathlib.Core.Path.{refl, sym, ap, ◌∙◌}
 use native.Mathlib.Omega.{arith}
 use Rattle.model.specs.declared.colour.Colour.TheVariants.{Blue, Red}
-use Rattle.model.specs.Layout.{job_of, last_length}
+use Rattle.model.specs.Layout.{job_of, entries_of, last_length}
 use Rattle.model.proofs.LayoutLaws.{job-bounds, limit-of}
 use Rattle.rules.specs.Model as Rules
 use Rattle.staircase.specs.Steps.{start_steps}
 use Rattle.staircase.proofs.StairsLaws.{holds-start}
 use Rattle.placement.proofs.PlaceLaws.{empty-from}
-use Rattle.planner.proofs.RunLaws.{chosen-bounds}
+use Rattle.planner.proofs.RunLaws.{empty-bounds, chosen-bounds}
 use Rattle.planner.specs.Outcomes.{as_planner}
 use Rattle.planner.proofs.RunLaws.{planning-start, planning-last, planning-stairs, planning-stuck, planning-trial, planning-next}
 use Rattle.planner.proofs.RunLaws.{planning-done, planning-complete, planning-free}
 use Rattle.planner.proofs.rounds.rounds.Goals as goal
+
+pub fill-requires : goal.fill-requires
+fill-requires c =
+    let a = c.args in
+    let j = a.links.now.job in
+    let J = job_of j.numbers.now in
+    (empty-bounds j.shape J c.requires.well_formed.0 (entries_of a.schedule.now) (replicate {A = ℕ} last_length 0)
+    (rw c.requires.schedule_value (empty-from j.shape J last_length))).schedule
 
 pub loop-placed-init : goal.loop-placed-init
 loop-placed-init c =
     let a = c.args in
     let J = job_of a.links.now.job.numbers.now in
     let W = c.requires.well_formed.0 in
-    let x = c.new.ensures in
-    let y = c.new-2.ensures in (
+    let x = c.new-2.ensures in
+    let y = c.new-3.ensures in (
       rw c.requires.schedule_value (refl, refl),
       refl,
       planning-start (as_planner a.rule) a.links.now.job.shape J W c.requires.well_formed.1 _ _ _
           (rw c.requires.schedule_value (empty-from a.links.now.job.shape J last_length))
-          c.requires.needs
+          c.fill.ensures
           (holds-start W Rules.blue _ (x ∙ ap start_steps (sym (limit-of a.links.now.job.shape J Blue))))
           (holds-start W Rules.red _ (y ∙ ap start_steps (sym (limit-of a.links.now.job.shape J Red)))),
     )

@@ -8,5 +8,5 @@ use Rattle.planner.proofs.rounds.rounds.Given as goal
 
 abbrev pub invariant-loop-placed : goal.invariant-loop-placed
 invariant-loop-placed l =
-    WholeSchedule l.schedule × (length l.last ≡ last_length)
-    × Planning (as_planner l.rule) l.links.job.shape (job_of l.links.job.numbers.now) (entries_of l.schedule) l.last l.needs l.stairs l.placed l.trials
+    WholeSchedule l.schedule × (length l.state.last ≡ last_length)
+    × Planning (as_planner l.rule) l.links.job.shape (job_of l.links.job.numbers.now) (entries_of l.schedule) l.state.last l.state.needs l.state.stairs l.placed l.trials
