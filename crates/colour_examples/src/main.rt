@@ -2,7 +2,7 @@
 // The file that task 1 makes and task 2 reads has size 3 and move time 5 throughout: F 3, C 5.
 #![tactic(auto)]
 
-use console::{Planner, print_answer, print_number, print_verdict};
+use console::{Planner, print_number, print_text, show_verdict as show};
 use model::colour::{Colour, cost_between};
 use std::io::Result;
 
@@ -31,13 +31,6 @@ fn table(rt: &impl Print) -> Result<()> {
     print_case(rt, Colour::Red, Colour::Red)?;
     print_case(rt, Colour::Blue, Colour::Red)?;
     print_case(rt, Colour::Red, Colour::Blue)
-}
-
-// Prints what is shown, and the verdict.
-fn show<'a>(rt: &impl Print, what: &'a [u8], sheet: &'a [u8], paper: &'a [u8]) -> Result<()> {
-    rt.write_all(what)?;
-    rt.write_all(b": ")?;
-    print_verdict(rt, frames::mark(sheet, paper))
 }
 
 // The move time is 0 within a colour: the reader may start at the maker's finish, and no tick earlier.
@@ -317,8 +310,8 @@ fn another_file_at_the_reader(rt: &impl Print) -> Result<()> {
 // Prints MemHEFT's timetable of a sheet.
 fn print_plan(rt: &impl Print, sheet: &[u8]) -> Result<()> {
     let mut out = io::large_buffer();
-    let a = console::plan(Planner::MemHeft, sheet, &mut out);
-    print_answer(rt, a, &out)
+    let answer = console::plan(Planner::MemHeft, sheet, &mut out);
+    print_text(rt, answer.written, &out)
 }
 
 // Prints what is shown, and the timetable.

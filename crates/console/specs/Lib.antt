@@ -1,5 +1,3 @@
 -- What the contracts of this crate cite.
 pub mod Escaped
 pub mod LongEnough
-pub mod Planners
-pub mod Within

@@ -1,45 +1,37 @@
 // Answers on standard output. Each function stops at the first write that fails, and returns why it failed.
-ghost use Rattle.console.specs.LongEnough.{LongEnough};
+ghost use Rattle.std.specs.Prelude.{◌≤◌, length, IfOk};
 
 use crate::escape::write_escaped;
-use frames::{Answer, Verdict};
-use std::io::Result;
+use crate::planners::plan;
+use frames::{Answer, Claim, Planner, Refusal, numbers_of};
+use io::large_buffer;
+use std::io::Result as IoResult;
 
 // A space and a number.
-pub fn print_number(rt: &impl Print, n: u64) -> Result<()> {
-    rt.write_all(b" ")?;
-    rt.print(n)
-}
-
-// `(refused N K)`.
-fn print_refusal(rt: &impl Print, number: u64, place: u64) -> Result<()> {
-    rt.write_all(b"(refused")?;
-    print_number(rt, number)?;
-    print_number(rt, place)?;
-    rt.write_all(b")\n")
+pub fn print_number(rt: &impl Print, n: u64) -> IoResult<()> {
+    print!(rt; " {n}")
 }
 
 // `(accepted S b r)`, or the refusal.
-pub fn print_verdict(rt: &impl Print, v: Verdict) -> Result<()> {
-    if v.number != 0 {
-        return print_refusal(rt, v.number, v.place);
+pub fn print_verdict(rt: &impl Print, verdict: Result<Claim, Refusal>) -> IoResult<()> {
+    match verdict {
+        Ok(claim) => println!(rt;
+            "(accepted {} {} {})",
+            claim.span, claim.blue_peak, claim.red_peak
+        ),
+        Err(refusal) => println!(rt; "{refusal}"),
     }
-    rt.write_all(b"(accepted")?;
-    print_number(rt, v.span)?;
-    print_number(rt, v.blue_peak)?;
-    print_number(rt, v.red_peak)?;
-    rt.write_all(b")\n")
 }
 
 // The verdict on a timetable, and the line at fault under a refusal. Nothing is printed for a line at fault that is absent or empty.
-pub fn print_marks<'a>(rt: &impl Print, sheet: &'a [u8], paper: &'a [u8]) -> Result<()> {
-    let v = frames::mark(sheet, paper);
-    print_verdict(rt, v)?;
-    if v.number == 0 {
+pub fn print_marks(rt: &impl Print, sheet: &[u8], paper: &[u8]) -> IoResult<()> {
+    let verdict = frames::mark(sheet, paper);
+    print_verdict(rt, verdict)?;
+    if verdict.is_ok() {
         return Ok(());
     }
     let line = frames::fault_line(sheet, paper);
-    if line.len() == 0 {
+    if line.is_empty() {
         return Ok(());
     }
     write_escaped(rt, line)?;
@@ -47,69 +39,71 @@ pub fn print_marks<'a>(rt: &impl Print, sheet: &'a [u8], paper: &'a [u8]) -> Res
 }
 
 // What is shown, and number, place and trials of a planner's answer.
-pub fn print_numbers<'a>(
-    rt: &impl Print,
-    name: &'a [u8],
-    planner: &'a [u8],
-    a: Answer,
-) -> Result<()> {
+pub fn print_numbers(rt: &impl Print, name: &[u8], planner: &[u8], answer: Answer) -> IoResult<()> {
+    let [number, place] = numbers_of(answer.written);
     rt.write_all(name)?;
     rt.write_all(planner)?;
-    print_number(rt, a.number)?;
-    print_number(rt, a.place)?;
-    print_number(rt, a.trials)?;
-    rt.write_all(b"\n")
+    println!(rt; " {number} {place} {}", answer.trials)
 }
 
-// The text that a call wrote at the front of a buffer, by the number and the place of its answer; none after a refusal.
-pub fn written_text(number: u64, place: u64, out: &[u8]) -> &[u8]
-    requires { LongEnough number place out.now }
+// The text that a call wrote at the front of a buffer; none after a refusal.
+pub fn written_text(written: Result<usize, Refusal>, out: &[u8]) -> &[u8]
+    requires { IfOk written (λ n. n ≤ length out.now) }
 {
-    if number != 0 {
-        return &out[..0];
-    }
-    let n = place as usize;
-    &out[..n]
+    &out[..written.unwrap_or(0)]
 }
 
 // That text, or the refusal.
-pub fn print_text(rt: &impl Print, number: u64, place: u64, out: &[u8]) -> Result<()>
-    requires { LongEnough number place out.now }
+pub fn print_text(rt: &impl Print, written: Result<usize, Refusal>, out: &[u8]) -> IoResult<()>
+    requires { IfOk written (λ n. n ≤ length out.now) }
 {
-    if number != 0 {
-        return print_refusal(rt, number, place);
+    match written {
+        Ok(size) => rt.write_all(&out[..size]),
+        Err(refusal) => println!(rt; "{refusal}"),
     }
-    rt.write_all(written_text(number, place, out))
-}
-
-// The timetable that a planner wrote, or its refusal.
-pub fn print_answer(rt: &impl Print, a: Answer, out: &[u8]) -> Result<()>
-    requires { LongEnough a.number a.place out.now }
-{
-    print_text(rt, a.number, a.place, out)
 }
 
 // How a timetable is marked that a call wrote. Nothing is printed after a refusal.
-pub fn print_text_mark<'a>(
+pub fn print_text_mark(
     rt: &impl Print,
-    sheet: &'a [u8],
-    number: u64,
-    place: u64,
-    out: &'a [u8],
-) -> Result<()>
-    requires { LongEnough number place out.now }
+    sheet: &[u8],
+    written: Result<usize, Refusal>,
+    out: &[u8],
+) -> IoResult<()>
+    requires { IfOk written (λ n. n ≤ length out.now) }
 {
-    if number != 0 {
+    let Ok(size) = written else {
         return Ok(());
-    }
-    let v = frames::mark(sheet, written_text(number, place, out));
+    };
     rt.write_all(b"marked: ")?;
-    print_verdict(rt, v)
+    print_verdict(rt, frames::mark(sheet, &out[..size]))
 }
 
-// How the timetable is marked that a planner wrote. Nothing is printed for a refusal.
-pub fn print_plan_mark<'a>(rt: &impl Print, sheet: &'a [u8], a: Answer, out: &'a [u8]) -> Result<()>
-    requires { LongEnough a.number a.place out.now }
-{
-    print_text_mark(rt, sheet, a.number, a.place, out)
+// What is shown, and the verdict on a timetable.
+pub fn show_verdict(rt: &impl Print, what: &[u8], sheet: &[u8], paper: &[u8]) -> IoResult<()> {
+    rt.write_all(what)?;
+    rt.write_all(b": ")?;
+    print_verdict(rt, frames::mark(sheet, paper))
+}
+
+// The same, and the line at fault under a refusal.
+pub fn show_marks(rt: &impl Print, what: &[u8], sheet: &[u8], paper: &[u8]) -> IoResult<()> {
+    rt.write_all(what)?;
+    rt.write_all(b": ")?;
+    print_marks(rt, sheet, paper)
+}
+
+// What is shown, number, place and trials of a planner on a sheet, its timetable or refusal, and how the timetable is marked.
+pub fn show_plan(
+    rt: &impl Print,
+    what: &[u8],
+    label: &[u8],
+    planner: Planner,
+    sheet: &[u8],
+) -> IoResult<()> {
+    let mut out = large_buffer();
+    let answer = plan(planner, sheet, &mut out);
+    print_numbers(rt, what, label, answer)?;
+    print_text(rt, answer.written, &out)?;
+    print_text_mark(rt, sheet, answer.written, &out)
 }

@@ -6,22 +6,22 @@ ghost use Rattle.rules.specs.Stripping.{strip as rules-strip};
 ghost use Rattle.convert_text.specs.Answers.{as_output};
 ghost use Rattle.console.specs.LongEnough.{LongEnough};
 
-use frames::Converted;
+use frames::Refusal;
 
 // The converted sheet of a board sheet.
-pub fn convert(sheet: &[u8], out: &mut [u8]) -> Converted
+pub fn convert(sheet: &[u8], out: &mut [u8]) -> Result<usize, Refusal>
     requires { max_text ≤ length out.old }
     ensures out_after { as_output result out.new ≡ rules-convert sheet.now out.old }
-    ensures long_enough { LongEnough result.number result.place out.new }
+    ensures long_enough { LongEnough result out.new }
 {
     frames::convert(sheet, out)
 }
 
 // What is left of a timetable of the converted sheet, for the board sheet itself.
-pub fn strip<'a>(sheet: &'a [u8], paper: &'a [u8], out: &mut [u8]) -> Converted
+pub fn strip(sheet: &[u8], paper: &[u8], out: &mut [u8]) -> Result<usize, Refusal>
     requires { max_text ≤ length out.old }
     ensures out_after { as_output result out.new ≡ rules-strip sheet.now paper.now out.old }
-    ensures long_enough { LongEnough result.number result.place out.new }
+    ensures long_enough { LongEnough result out.new }
 {
     frames::strip(sheet, paper, out)
 }

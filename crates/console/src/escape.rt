@@ -7,15 +7,6 @@ ghost use Rattle.console.specs.Escaped.{printable, escaped_byte, escaped};
 
 use std::io::Result;
 
-fn is_printable(b: u8) -> bool
-    ensures { result ≡ printable b }
-{
-    if b < b' ' {
-        return false;
-    }
-    b <= b'~'
-}
-
 fn hex_digit(d: u8) -> u8
     requires { d < 16 }
     ensures { result ≡ hex_digit_ascii d }
@@ -40,16 +31,18 @@ fn escape_byte(b: u8, out: &mut [u8]) -> usize
     requires { 4 ≤ length out.old }
     ensures { Wrote (escaped_byte b) result out.old out.new }
 {
-    if !is_printable(b) {
-        return escape_hex(b, out);
+    match b {
+        b'\\' => {
+            out[0] = b'\\';
+            out[1] = b'\\';
+            2
+        }
+        b' '..=b'~' => {
+            out[0] = b;
+            1
+        }
+        _ => escape_hex(b, out),
     }
-    if b == b'\\' {
-        out[0] = b'\\';
-        out[1] = b'\\';
-        return 2;
-    }
-    out[0] = b;
-    1
 }
 
 // Writes a text, escaped, at the front of `out`, and returns how many bytes that takes. All of them are printable.
@@ -60,11 +53,8 @@ fn escape(text: &[u8], out: &mut [u8]) -> usize
     ensures prefix_len { IsPrefixLen result out.new }
 {
     let mut at = 0;
-    let mut i = 0;
-    while i < text.len() {
-        let n = escape_byte(text[i], &mut out[at..]);
-        at += n;
-        i += 1;
+    for b in text {
+        at += escape_byte(*b, &mut out[at..]);
     }
     at
 }

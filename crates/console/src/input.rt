@@ -1,5 +1,6 @@
 // Texts read whole into a lent buffer, from a file that is open or named. A function that says so reports what failed, on `err`, standard error.
-ghost use Rattle.console.specs.Within.{Within};
+ghost use Rattle.std.specs.Prelude.{IfOk};
+ghost use Rattle.io.specs.Counts.{IsPrefixLen};
 
 use crate::errors::{report, report_argument};
 use std::env::FillError;
@@ -7,41 +8,21 @@ use std::fs::File;
 use std::io::{Error, ErrorKind, Read, Result};
 use std::rt::{Env, Files};
 
-// What was read: so many bytes at the front of the buffer, or nothing of use, since a call failed. Fewer bytes than the buffer has are
-// the whole input; where they fill the buffer the input may go on.
-#[derive(Clone, Copy)]
-pub enum Input {
-    Bytes(usize),
-    Failed(Error),
-}
-
-// One read into the buffer: 0 bytes at the end of the input. A read that a signal interrupts counts as failed; the programs handle no
-// signal, so none does.
-fn read_some(from: &mut impl Read, buf: &mut [u8]) -> Input
-    ensures { Within result buf.new }
-{
-    match from.read(buf) {
-        Ok(n) => Input::Bytes(n),
-        Err(e) => Input::Failed(e),
-    }
-}
-
-// Reads until a read finds the end of the input, the buffer is full or a read fails.
-fn read_all(from: &mut impl Read, buf: &mut [u8]) -> Input
-    ensures { Within result buf.new }
+// Reads until a read finds the end of the input, the buffer is full or a read fails: how many bytes are at the front of the buffer. Fewer
+// than it has are the whole input; where they fill it the input may go on. A read that a signal interrupts counts as failed; the programs
+// handle no signal, so none does.
+fn read_all(from: &mut impl Read, buf: &mut [u8]) -> Result<usize>
+    ensures { IfOk result (λ n. IsPrefixLen n buf.new) }
 {
     let mut n = 0;
     while n < buf.len() {
-        let more = match read_some(from, &mut buf[n..]) {
-            Input::Bytes(more) => more,
-            Input::Failed(e) => return Input::Failed(e),
-        };
+        let more = from.read(&mut buf[n..])?;
         if more == 0 {
-            return Input::Bytes(n);
+            return Ok(n);
         }
         n += more;
     }
-    Input::Bytes(n)
+    Ok(n)
 }
 
 // The text of an open file that messages call `name`. Reports a failure.
@@ -51,11 +32,11 @@ pub fn read_descriptor<'a>(
     name: &'a [u8],
     from: &mut impl Read,
     buf: &mut [u8],
-) -> Input
-    ensures { Within result buf.new }
+) -> Result<usize>
+    ensures { IfOk result (λ n. IsPrefixLen n buf.new) }
 {
     let input = read_all(from, buf);
-    if let Input::Failed(e) = input {
+    if let Err(e) = input {
         report(err, program, name, e);
     }
     input
@@ -76,14 +57,14 @@ pub fn read_file<'a>(
     program: &'a [u8],
     name: &'a [u8],
     buf: &mut [u8],
-) -> Input
-    ensures { Within result buf.new }
+) -> Result<usize>
+    ensures { IfOk result (λ n. IsPrefixLen n buf.new) }
 {
     match open(rt, name) {
         Ok(mut file) => read_descriptor(err, program, name, &mut file, buf),
         Err(e) => {
             report(err, program, name, e);
-            Input::Failed(e)
+            Err(e)
         }
     }
 }
@@ -110,16 +91,16 @@ pub fn read_argument(
     program: &[u8],
     i: usize,
     buf: &mut [u8],
-) -> Input
-    ensures { Within result buf.new }
+) -> Result<usize>
+    ensures { IfOk result (λ n. IsPrefixLen n buf.new) }
 {
     let error = match rt.arg(i, buf) {
-        Ok(n) => return Input::Bytes(n),
+        Ok(n) => return Ok(n),
         Err(FillError::NotPresent) => Error::from_raw_os_error(INVALID),
         Err(FillError::TooLong) => Error::from_raw_os_error(NAME_TOO_LONG),
     };
     report_argument(err, program, i, error);
-    Input::Failed(error)
+    Err(error)
 }
 
 // The text of the file that argument `i` names. Reports a failure.
@@ -129,12 +110,10 @@ pub fn read_named(
     program: &[u8],
     i: usize,
     buf: &mut [u8],
-) -> Input
-    ensures { Within result buf.new }
+) -> Result<usize>
+    ensures { IfOk result (λ n. IsPrefixLen n buf.new) }
 {
     let mut path = io::buffer();
-    match read_argument(rt, err, program, i, &mut path) {
-        Input::Bytes(n) => read_file(rt, err, program, &path[..n], buf),
-        Input::Failed(e) => Input::Failed(e),
-    }
+    let n = read_argument(rt, err, program, i, &mut path)?;
+    read_file(rt, err, program, &path[..n], buf)
 }

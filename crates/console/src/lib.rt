@@ -9,11 +9,12 @@ mod input;
 mod planners;
 
 pub use answers::{
-    print_answer, print_marks, print_number, print_numbers, print_plan_mark, print_text,
-    print_text_mark, print_verdict, written_text,
+    print_marks, print_number, print_numbers, print_text, print_text_mark, print_verdict,
+    show_marks, show_plan, show_verdict, written_text,
 };
 pub use converter::{convert, strip};
 pub use errors::report;
 pub use escape::write_escaped;
-pub use input::{Input, argument_count, read_argument, read_descriptor, read_file, read_named};
-pub use planners::{Planner, plan};
+pub use frames::Planner;
+pub use input::{argument_count, read_argument, read_descriptor, read_file, read_named};
+pub use planners::plan;

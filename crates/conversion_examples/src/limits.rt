@@ -1,7 +1,7 @@
 // The sheets of data/: at most 64 tasks and 256 files may result. tasks_N_w_M has N tasks, M of them with W, and no file; files_N_w_M has N files and
 // M tasks with W. The W of a task is its number; a file has the number of its maker for its size, and that of its reader for its move time.
 use crate::show::numbers;
-use console::{Input, convert, read_file, strip, written_text};
+use console::{convert, read_file, strip, written_text};
 use std::io::Result;
 use std::rt::Files;
 
@@ -18,14 +18,14 @@ fn print_lines<'a>(
     text: &'a [u8],
     lines: [u64; 4],
 ) -> Result<()> {
-    if check::same(sheet, text) {
+    if sheet == text {
         rt.write_all(b"the same bytes\n")?;
         return Ok(());
     }
-    print_line(rt, text, lines[0])?;
-    print_line(rt, text, lines[1])?;
-    print_line(rt, text, lines[2])?;
-    print_line(rt, text, lines[3])
+    for k in lines {
+        print_line(rt, text, k)?;
+    }
+    Ok(())
 }
 
 // The converter on a sheet: number, place and four lines of what was written.
@@ -36,10 +36,10 @@ fn show_converted<'a>(
     lines: [u64; 4],
 ) -> Result<()> {
     let mut out = io::large_buffer();
-    let a = convert(sheet, &mut out);
-    numbers(rt, name, a)?;
-    if a.number == 0 {
-        print_lines(rt, sheet, written_text(a.number, a.place, &out), lines)?;
+    let written = convert(sheet, &mut out);
+    numbers(rt, name, written)?;
+    if written.is_ok() {
+        print_lines(rt, sheet, written_text(written, &out), lines)?;
     }
     Ok(())
 }
@@ -47,14 +47,14 @@ fn show_converted<'a>(
 // The stripper on the same sheet and an empty timetable: 41 and 42 come first, else line 1 of the timetable is missing.
 fn show_stripped(rt: &impl Print, sheet: &[u8]) -> Result<()> {
     let mut out = io::large_buffer();
-    let a = strip(sheet, b"", &mut out);
-    numbers(rt, b"an empty timetable", a)
+    let written = strip(sheet, b"", &mut out);
+    numbers(rt, b"an empty timetable", written)
 }
 
 // Both on the sheet of a file.
 fn show(rt: &(impl Files + Print), err: &impl Print, name: &[u8], lines: [u64; 4]) -> Result<()> {
     let mut text = io::large_buffer();
-    let Input::Bytes(n) = read_file(rt, err, b"conversion_examples", name, &mut text) else {
+    let Ok(n) = read_file(rt, err, b"conversion_examples", name, &mut text) else {
         return Ok(());
     };
     let sheet = &text[..n];

@@ -1,16 +1,13 @@
 // Timetables of converted sheets worked out by hand.
 use crate::show::stripped;
-use console::{convert, print_verdict, written_text};
+use console::{convert, show_verdict, written_text};
 use std::io::Result;
 
 // A timetable of the converted sheet: how it is marked there, and what is left of it.
 fn show<'a>(rt: &impl Print, what: &'a [u8], sheet: &'a [u8], paper: &'a [u8]) -> Result<()> {
     let mut out = io::large_buffer();
-    let a = convert(sheet, &mut out);
-    let wide = written_text(a.number, a.place, &out);
-    rt.write_all(what)?;
-    rt.write_all(b": ")?;
-    print_verdict(rt, frames::mark(wide, paper))?;
+    let written = convert(sheet, &mut out);
+    show_verdict(rt, what, written_text(written, &out), paper)?;
     stripped(rt, b"stripped", sheet, paper)
 }
 

@@ -1,22 +1,9 @@
 // Planners on converted sheets: each plan is marked on the converted sheet, stripped, and what is left is marked for the original.
 use crate::show::stripped;
-use console::{Planner, convert, plan, print_answer, print_numbers, print_plan_mark, written_text};
+use console::{
+    Planner, convert, plan, print_numbers, print_text, print_text_mark, show_plan, written_text,
+};
 use std::io::Result;
-
-// One planner on a sheet: its answer, and how its timetable is marked.
-fn show_plan<'a>(
-    rt: &impl Print,
-    what: &'a [u8],
-    label: &'a [u8],
-    planner: Planner,
-    sheet: &'a [u8],
-) -> Result<()> {
-    let mut out = io::large_buffer();
-    let a = plan(planner, sheet, &mut out);
-    print_numbers(rt, what, label, a)?;
-    print_answer(rt, a, &out)?;
-    print_plan_mark(rt, sheet, a, &out)
-}
 
 // One planner on a converted sheet, and what is left of its timetable for the original; nothing where there is no timetable.
 fn show_planner<'a>(
@@ -27,16 +14,16 @@ fn show_planner<'a>(
     wide: &'a [u8],
 ) -> Result<()> {
     let mut out = io::large_buffer();
-    let a = plan(planner, wide, &mut out);
-    print_numbers(rt, b"converted", label, a)?;
-    print_answer(rt, a, &out)?;
-    print_plan_mark(rt, wide, a, &out)?;
-    if a.number == 0 {
+    let answer = plan(planner, wide, &mut out);
+    print_numbers(rt, b"converted", label, answer)?;
+    print_text(rt, answer.written, &out)?;
+    print_text_mark(rt, wide, answer.written, &out)?;
+    if answer.written.is_ok() {
         stripped(
             rt,
             b"stripped",
             sheet,
-            written_text(a.number, a.place, &out),
+            written_text(answer.written, &out),
         )?;
     }
     Ok(())
@@ -52,8 +39,8 @@ fn show<'a>(
 ) -> Result<()> {
     show_plan(rt, what, label, planner, sheet)?;
     let mut out = io::large_buffer();
-    let a = convert(sheet, &mut out);
-    let wide = written_text(a.number, a.place, &out);
+    let written = convert(sheet, &mut out);
+    let wide = written_text(written, &out);
     show_planner(rt, b", MemHEFT:", Planner::MemHeft, sheet, wide)?;
     show_planner(rt, b", MemMinMin:", Planner::MemMinMin, sheet, wide)?;
     show_planner(rt, b", HEFT:", Planner::Heft, sheet, wide)?;

@@ -6,9 +6,9 @@ use std::io::Result;
 // The converter on a sheet without W: number and place, and whether it wrote the sheet's own bytes.
 fn show_same<'a>(rt: &impl Print, what: &'a [u8], sheet: &'a [u8]) -> Result<()> {
     let mut out = io::large_buffer();
-    let a = convert(sheet, &mut out);
-    numbers(rt, what, a)?;
-    if check::same(sheet, written_text(a.number, a.place, &out)) {
+    let written = convert(sheet, &mut out);
+    numbers(rt, what, written)?;
+    if written_text(written, &out) == sheet {
         rt.write_all(b"the same bytes\n")?;
     }
     Ok(())

@@ -11,7 +11,7 @@ use Rattle.rules.specs.Changes.{Change, InTime, greatest_total}
 use Rattle.rules.specs.Text.{in_timetable}
 use Rattle.rules.specs.ScheduleText.{read_schedule}
 use Rattle.rules.specs.Promises.{WellFormed, Spellable}
-use Rattle.rules.specs.Conversion.{converted, stripped, stripped_text, unwritten, output}
+use Rattle.rules.specs.Conversion.{added_count, converted, stripped, stripped_text, unwritten, output}
 use Rattle.rules.specs.Stripping.{strip_read}
 use Rattle.rules.specs.ConversionPromises.{Convertible}
 use Rattle.rules.proofs.JudgeLaws.{Judged, by15, by16, by17, by18, by0, judged}
@@ -22,10 +22,13 @@ use Rattle.rules.proofs.ConversionLaws.{converted-formed}
 use Rattle.rules.proofs.StrippedLaws.{left-spelled, left-valid}
 use Rattle.rules.proofs.ChangeLaws.{changes_law}
 use Rattle.model.specs.declared.layout.Shape.{Shape}
-use Rattle.model.specs.Layout.{Job, Entries, instance_from, schedule_from, Bounds, Placed}
+use Rattle.model.specs.declared.layout.Numbers.{Numbers}
+use Rattle.model.specs.declared.layout.Schedule.{Schedule as StoredSchedule}
+use Rattle.model.specs.Layout.{Job, Entries, instance_from, schedule_from, instance_of, schedule_of, Bounds, Placed}
 use Rattle.model.proofs.LayoutLaws.{job-bounds, placed-complete}
 use Rattle.model.proofs.SpelledLaws.{spelled-placed, spelled-bounds}
 use Rattle.conversion.specs.Widened.{widened}
+use Rattle.convert_text.specs.Converts.{Converted}
 use Rattle.mark_text.specs.Marked.{Marked, by_text, judges}
 use Rattle.validator.specs.Memories.{ByChanges}
 
@@ -57,27 +60,23 @@ module _ (I : Instance) (paper : List ℕ) where
       let valid = (judge-exact (converted I) WK P claim S).0 (zero-accepts (judged (converted I) P claim) z) in
       (left-spelled I P claim W WK S valid, (left-valid I P claim W WK S valid).on_time)
 
--- the same of the arrays: marked on the array of the converted job, and read into a schedule array
-module _ (b r : Shape) (J target : Job) (L : Entries) (m : ℕ) (q : r ≡ widened b m) (e : instance_from (widened b m) target ≡ converted (instance_from b J))
-    (paper : List ℕ) {v : Verdict} (marked : Marked (instance_from r target) paper (schedule_from r L) v) where
-  abbrev I : Instance
-  I = instance_from b J
-
+-- the same of the arrays: marked on the numbers of the converted job, and read into a schedule array
+module _ {b : Shape} {I : Instance} {r : Shape} {wide : Numbers} (x : Converted b I r wide) (paper : List ℕ) (schedule : StoredSchedule) {v : Verdict}
+    (marked : Marked (instance_of r wide) paper (schedule_of r schedule) v) where
   abbrev P : Schedule
-  P = schedule_from (widened b m) L
+  P = schedule_of (widened b (added_count I)) schedule
 
   there : Marked (converted I) paper P v
-  there = subst (λ K. Marked K paper P v) e (subst (λ w. Marked (instance_from w target) paper (schedule_from w L) v) q marked)
+  there = subst (λ K. Marked K paper P v) x.is_converted (subst (λ w. Marked (instance_of r wide) paper (schedule_of w schedule) v) x.wider marked)
 
-  pub left-refused : (buffer : List ℕ) → (v.number ≡ 0 → ⊥)
-      → unwritten v.number v.place buffer ≡ strip_read I buffer (read_schedule (converted I) paper)
+  pub left-refused : (buffer : List ℕ) → (v.number ≡ 0 → ⊥) → unwritten v.number v.place buffer ≡ strip_read I buffer (read_schedule (converted I) paper)
   left-refused buffer = refused-there I paper buffer there
 
   pub left-made : (buffer : List ℕ) → v.number ≡ 0 → output (stripped_text I P) buffer ≡ strip_read I buffer (read_schedule (converted I) paper)
   left-made buffer = made-there I paper buffer there
 
-  pub left-good : WellFormed I → Convertible I → v.number ≡ 0 → Spellable I (stripped I P) (true_claim I (stripped I P)) × AllOnTime I (stripped I P)
-  left-good W fit = valid-there I paper W fit there
+  pub left-good : WellFormed I → v.number ≡ 0 → Spellable I (stripped I P) (true_claim I (stripped I P)) × AllOnTime I (stripped I P)
+  left-good W = valid-there I paper W x.convertible there
 
 -- ---- what is left
 

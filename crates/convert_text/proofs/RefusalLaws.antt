@@ -1,66 +1,61 @@
 -- 41 and 42, by the shape and the tasks to add.
 use Prim.Native.Nat.{ℕ, ◌+◌, ◌≤◌, ◌<◌}
 use mathlib.Core.List.{List}
-use mathlib.Core.Path.{◌≡◌, refl}
+use mathlib.Core.Path.{◌≡◌}
 use native.Mathlib.Omega.{arith}
 use borrow.Author.Tests.{lt-ltb, le-ltb}
 use Rattle.rules.specs.Limits.{max_tasks, max_files}
-use Rattle.rules.specs.Model.{Instance}
-use Rattle.rules.specs.Conversion.{added_count, Output, unwritten, if_convertible}
+use Rattle.rules.specs.Model.{Instance, task_count, file_count}
+use Rattle.rules.specs.Conversion.{added_count, converted, Output, unwritten, if_convertible}
 use Rattle.rules.specs.ConversionPromises.{Convertible}
-use Rattle.rules.proofs.ConvertLaws.{OrTooMany, by41, by42, passes, or-too-many}
+use Rattle.rules.proofs.ConversionLaws.{tasks-converted, files-converted}
+use Rattle.rules.specs.Text.{in_sheet, in_timetable}
+use Rattle.rules.specs.declared.refusal.Refusal.{Refusal}
+use Rattle.rules.specs.declared.refusal.Refusal.TheVariants.{Sheet, Timetable, Overlap, Early, OverLimit, UntrueClaim, Stuck, Short, TooManyTasks, TooManyFiles}
+use Rattle.rules.specs.Refusals.{as_fault, refusal_number}
+use Rattle.rules.proofs.MarkerLaws.{fault-numbered}
 use Rattle.model.specs.declared.layout.Shape.{Shape}
 use Rattle.model.specs.Layout.{Job, instance_from}
 use Rattle.model.proofs.LayoutLaws.{task-count, file-count}
-use Rattle.convert_text.specs.Answers.{refusal_of}
 
-module _ (t f : ℕ) where
-  pub many-tasks : max_tasks < t → 41 ≡ refusal_of t f
-  many-tasks h = rw (lt-ltb max_tasks t h)
-
-  pub many-files : t ≤ max_tasks → max_files < f → 42 ≡ refusal_of t f
-  many-files h l = rw (le-ltb max_tasks t h, lt-ltb max_files f l)
-
-  pub neither : t ≤ max_tasks → f ≤ max_files → 0 ≡ refusal_of t f
-  neither h l = rw (le-ltb max_tasks t h, le-ltb max_files f l)
-
-module _ (b : Shape) (J : Job) (m : ℕ) (e : m ≡ added_count (instance_from b J)) where
+module _ (b : Shape) (J : Job) {m : ℕ} (e : m ≡ added_count (instance_from b J)) where
   abbrev I : Instance
   I = instance_from b J
 
-  -- what the refusal says of the answer
-  pub data Refuses (buffer : List ℕ) (a o : Output) : ℕ → Type 0 where
-    refuses : (n : ℕ) → (n ≡ 0 → ⊥) → unwritten n 0 buffer ≡ o → Refuses buffer a o n
-    converts : Convertible I → o ≡ a → Refuses buffer a o 0
+  tasks : task_count (converted I) ≡ m + b.tasks
+  tasks = omega (arith, tasks-converted I, task-count b J)
 
-  refused-by : {buffer : List ℕ} {a o : Output} → OrTooMany I buffer a o → Refuses buffer a o (refusal_of (m + b.tasks) (m + b.files))
-  refused-by (by41 l) = rw (← many-tasks (m + b.tasks) (m + b.files) (omega (arith, task-count b J))) (refuses 41 (λ z. omega arith) refl)
-  refused-by (by42 t l) =
-      rw (← many-files (m + b.tasks) (m + b.files) (omega (arith, task-count b J)) (omega (arith, file-count b J))) (refuses 42 (λ z. omega arith) refl)
-  refused-by (passes fit) =
-      rw (← neither (m + b.tasks) (m + b.files) (omega (arith, fit.tasks, task-count b J)) (omega (arith, fit.files, file-count b J))) (converts fit refl)
+  files : file_count (converted I) ≡ m + b.files
+  files = omega (arith, files-converted I, file-count b J)
 
-  module _ (buffer : List ℕ) (a : Output) {n : ℕ} (r : n ≡ refusal_of (m + b.tasks) (m + b.files)) where
-    by-refusal : Refuses buffer a (if_convertible I buffer a) n
-    by-refusal = rw r (refused-by (or-too-many I buffer a))
+  pub many-tasks : max_tasks < m + b.tasks → (buffer : List ℕ) (a : Output) → unwritten 41 0 buffer ≡ if_convertible I buffer a
+  many-tasks h buffer a = rw (tasks, lt-ltb max_tasks (m + b.tasks) h)
 
-    pub is-refused : (n ≡ 0 → ⊥) → unwritten n 0 buffer ≡ if_convertible I buffer a
-    is-refused h = go h by-refusal
-      where
-        go : {n : ℕ} → (n ≡ 0 → ⊥) → Refuses buffer a (if_convertible I buffer a) n → unwritten n 0 buffer ≡ if_convertible I buffer a
-        go h (refuses k z q) = q
-        go h (converts fit q) = absurd (h refl)
+  pub many-files : m + b.tasks ≤ max_tasks → max_files < m + b.files → (buffer : List ℕ) (a : Output) → unwritten 42 0 buffer ≡ if_convertible I buffer a
+  many-files h l buffer a = rw (tasks, files, le-ltb max_tasks (m + b.tasks) h, lt-ltb max_files (m + b.files) l)
 
-    pub is-converted : n ≡ 0 → Convertible I × (if_convertible I buffer a ≡ a)
-    is-converted h = go h by-refusal
-      where
-        go : {n : ℕ} → n ≡ 0 → Refuses buffer a (if_convertible I buffer a) n → Convertible I × (if_convertible I buffer a ≡ a)
-        go h (refuses k z q) = absurd (z h)
-        go h (converts fit q) = (fit, q)
-
-  -- an instance can be converted exactly where the counts fit
-  pub convertible : (m + b.tasks ≤ max_tasks) × (m + b.files ≤ max_files) → Convertible I
-  convertible h = record { tasks = omega (arith, h.0, task-count b J); files = omega (arith, h.1, file-count b J) }
+  pub convertible : m + b.tasks ≤ max_tasks → m + b.files ≤ max_files → Convertible I
+  convertible h l = record { tasks = omega (arith, task-count b J); files = omega (arith, file-count b J) }
 
   pub fits : Convertible I → (m + b.tasks ≤ max_tasks) × (m + b.files ≤ max_files)
   fits c = (omega (arith, c.tasks, task-count b J), omega (arith, c.files, file-count b J))
+
+-- a job that can be converted is answered
+pub passes : (I : Instance) → Convertible I → (buffer : List ℕ) (a : Output) → if_convertible I buffer a ≡ a
+passes I fit buffer a =
+    let t : task_count (converted I) ≤ max_tasks = omega (arith, tasks-converted I, fit.tasks) in
+    let f : file_count (converted I) ≤ max_files = omega (arith, files-converted I, fit.files) in
+    rw (le-ltb max_tasks (task_count (converted I)) t, le-ltb max_files (file_count (converted I)) f)
+
+-- no refusal has the number 0
+pub numbered : (r : Refusal) → refusal_number r ≡ 0 → ⊥
+numbered (Sheet w k) z = fault-numbered in_sheet (as_fault w) z
+numbered (Timetable w k) z = fault-numbered in_timetable (as_fault w) z
+numbered (Overlap k) z = omega arith
+numbered (Early k) z = omega arith
+numbered (OverLimit k) z = omega arith
+numbered UntrueClaim z = omega arith
+numbered (Stuck k) z = omega arith
+numbered (Short k) z = omega arith
+numbered TooManyTasks z = omega arith
+numbered TooManyFiles z = omega arith

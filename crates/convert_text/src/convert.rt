@@ -3,55 +3,51 @@ ghost use Rattle.std.specs.Prelude.{◌≡◌};
 ghost use Rattle.rules.specs.InstanceText.{instance_text};
 ghost use Rattle.rules.specs.Promises.{WellFormed};
 ghost use Rattle.rules.specs.Conversion.{output, convert_on};
-ghost use Rattle.model.specs.Layout.{instance_of};
 ghost use Rattle.model.specs.Jobs.{instance_in};
 ghost use Rattle.convert_text.specs.Answers.{as_output};
+ghost use Rattle.convert_text.specs.Converts.{Converts};
 
-use crate::answer::{Converted, refusal};
 use conversion::added::{added, widened};
 use conversion::job::convert;
 use model::job::Job;
 use model::layout;
 use model::layout::Shape;
-use plan_text::Answer;
+use rules::{Board, Refusal};
 
-// Writes an instance's sheet, if the buffer is long enough.
-fn write_sheet(job: &Job<'_>, out: &mut [u8]) -> Converted
+// Writes the numbers of the converted job, and answers its shape; refused if over 64 tasks or 256 files would result.
+pub fn convert_job(job: &Job, wide: &mut layout::Numbers) -> Result<Shape, Refusal>
+    ensures { Converts job.now.shape (instance_in job.now) result wide.new }
+{
+    let shape = job.shape;
+    let more = added(shape, job.numbers);
+    if Board::MAX_TASKS < more + shape.tasks {
+        return Err(Refusal::TooManyTasks);
+    }
+    if Board::MAX_FILES < more + shape.files {
+        return Err(Refusal::TooManyFiles);
+    }
+    convert(job, more, wide);
+    Ok(widened(shape, more))
+}
+
+// Writes a job's sheet, if the buffer is long enough, and answers how many bytes that takes.
+fn write_sheet(job: &Job, out: &mut [u8]) -> Result<usize, Refusal>
     ensures { as_output result out.new ≡ output (instance_text (instance_in job.now)) out.old }
 {
     let size = instance::instance_size(job);
     if out.len() < size {
-        return Converted {
-            number: Answer::SHORT,
-            place: size as u64,
-        };
+        return Err(Refusal::Short(size as u64));
     }
-    let end = instance::write(job, out);
-    Converted {
-        number: 0,
-        place: end as u64,
-    }
+    Ok(instance::write(job, out))
 }
 
-// The converter on the instance of an accepted board sheet.
-pub fn convert_instance(shape: Shape, job: &layout::Numbers, out: &mut [u8]) -> Converted
-    requires { WellFormed (instance_of shape job.now) }
-    ensures { as_output result out.new ≡ convert_on (instance_of shape job.now) out.old }
+// The converter on the job of an accepted board sheet.
+pub fn convert_instance(job: &Job, out: &mut [u8]) -> Result<usize, Refusal>
+    requires { WellFormed (instance_in job.now) }
+    ensures { as_output result out.new ≡ convert_on (instance_in job.now) out.old }
 {
-    let more = added(shape, job);
-    let number = refusal(shape, more);
-    if number != 0 {
-        return Converted { number, place: 0 };
-    }
     let mut wide = layout::Numbers::new();
-    let lent = Job {
-        shape,
-        numbers: job,
-    };
-    convert(&lent, more, &mut wide);
-    let converted = Job {
-        shape: widened(shape, more),
-        numbers: &wide,
-    };
-    write_sheet(&converted, out)
+    let shape = convert_job(job, &mut wide)?;
+    let numbers = &wide;
+    write_sheet(&Job { shape, numbers }, out)
 }

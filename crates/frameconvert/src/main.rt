@@ -1,14 +1,14 @@
 // frameconvert: reads a board sheet from standard input and prints it as one for readers that lack working memory (Order 7).
 #![tactic(auto)]
 
-use console::{Input, argument_count, convert, print_text, read_descriptor, report};
+use console::{argument_count, convert, print_text, read_descriptor, report};
 use std::io::Result;
 
 // Prints the converted sheet, or the refusal.
 fn print_converted(rt: &impl Print, sheet: &[u8]) -> Result<()> {
     let mut out = io::large_buffer();
-    let a = convert(sheet, &mut out);
-    print_text(rt, a.number, a.place, &out)
+    let written = convert(sheet, &mut out);
+    print_text(rt, written, &out)
 }
 
 // The buffer for the sheet is longer than a text may be, so input that fills it is refused as too long.
@@ -19,7 +19,7 @@ fn main(rt: HostRuntime) {
         return;
     }
     let mut sheet = io::large_buffer();
-    let Input::Bytes(n) = read_descriptor(
+    let Ok(n) = read_descriptor(
         &err,
         b"frameconvert",
         b"standard input",

@@ -2,19 +2,14 @@
 #![tactic(auto)]
 
 use console::{
-    Input, argument_count, print_marks, print_verdict, read_argument, read_file, read_named,
-    report, write_escaped,
+    argument_count, print_marks, print_verdict, read_argument, read_file, read_named, report,
+    write_escaped,
 };
 use std::io::Result;
 use std::rt::{Env, Files};
 
 // Prints a paper's name and its verdict on one line: one line for each paper, also where it is the sheet that is refused.
-fn print_named_marks<'a>(
-    rt: &impl Print,
-    name: &'a [u8],
-    sheet: &'a [u8],
-    paper: &'a [u8],
-) -> Result<()> {
+fn print_named_marks(rt: &impl Print, name: &[u8], sheet: &[u8], paper: &[u8]) -> Result<()> {
     write_escaped(rt, name)?;
     rt.write_all(b" ")?;
     print_verdict(rt, frames::mark(sheet, paper))
@@ -30,12 +25,12 @@ fn mark_argument(
     several: bool,
 ) -> Result<()> {
     let mut path = io::buffer();
-    let Input::Bytes(n) = read_argument(rt, err, b"framemark", i, &mut path) else {
+    let Ok(n) = read_argument(rt, err, b"framemark", i, &mut path) else {
         return Ok(());
     };
     let name = &path[..n];
     let mut text = io::large_buffer();
-    let Input::Bytes(m) = read_file(rt, err, b"framemark", name, &mut text) else {
+    let Ok(m) = read_file(rt, err, b"framemark", name, &mut text) else {
         return Ok(());
     };
     let paper = &text[..m];
@@ -47,13 +42,11 @@ fn mark_argument(
 
 // Marks the papers of the arguments from 2 to the last. Stops when a verdict cannot be written.
 fn mark_arguments(rt: &(impl Env + Files + Print), err: &impl Print, sheet: &[u8], count: usize) {
-    let mut i = 2;
-    while i < count {
+    for i in 2..count {
         if let Err(e) = mark_argument(rt, err, sheet, i, 3 < count) {
             report(err, b"framemark", b"standard output", e);
             return;
         }
-        i += 1;
     }
 }
 
@@ -65,7 +58,7 @@ fn main(rt: HostRuntime) {
         return;
     }
     let mut text = io::large_buffer();
-    let Input::Bytes(n) = read_named(&rt, &err, b"framemark", 1, &mut text) else {
+    let Ok(n) = read_named(&rt, &err, b"framemark", 1, &mut text) else {
         return;
     };
     mark_arguments(&rt, &err, &text[..n], count);

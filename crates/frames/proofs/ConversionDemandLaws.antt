@@ -6,9 +6,8 @@ use native.Mathlib.Omega.{arith}
 use lib.ListN.{length}
 use Rattle.rules.specs.Limits.{max_text}
 use Rattle.rules.specs.Model.{Instance}
-use Rattle.rules.specs.Text.{in_sheet, fault_number}
 use Rattle.rules.specs.InstanceText.{InstanceRead as Reading, refused, accepted, read_instance}
-use Rattle.rules.specs.Conversion.{Output, converted_text, stripped_text, unwritten, output, convert_on, convert}
+use Rattle.rules.specs.Conversion.{Output, converted_text, stripped_text, output, convert_on, convert}
 use Rattle.rules.specs.Stripping.{strip_on, strip}
 use Rattle.rules.specs.ConversionPromises.{Convertible}
 use Rattle.rules.proofs.SheetLaws.{sheet_exact}
@@ -19,14 +18,14 @@ use Rattle.rules.proofs.StrippedLaws.{stripped_law}
 use Rattle.rules.proofs.ConvertLaws.{Outputs, short, fits, outputs, OrTooMany, by41, by42, passes, or-too-many, convert-refused, convert-accepted}
 use Rattle.rules.proofs.ConvertLaws.{convert_refused, convert_exact, convert_ends, converted_short, same_sheet, converted_reads, stripped_accepted, extended_accepted}
 use Rattle.rules.proofs.StripLaws.{Strips, by_mark, leaves, strips, strip-refused, strip-accepted, strip_refused, strip_exact, strip_ends, stripped_short, strip_accepted}
-use Rattle.std.specs.Prelude.{Result, Ok, Err}
+use Rattle.std.specs.Prelude.{Err}
 use Rattle.rules.specs.declared.refusal.Refusal.{Refusal}
-use Rattle.rules.specs.Refusals.{refusal_number, refusal_place}
+use Rattle.convert_text.specs.Answers.{as_output}
+use Rattle.instance.specs.Reads.{IsRead}
+use Rattle.instance.proofs.AcceptedLaws.{read-refused}
 use Rattle.model.specs.declared.layout.Shape.{Shape}
 use Rattle.model.specs.declared.layout.Numbers.{Numbers}
 use Rattle.model.specs.Layout.{job_of, instance_from}
-use Rattle.instance.specs.Reads.{IsRead}
-use Rattle.instance.proofs.AcceptedLaws.{read-accepted, read-refused}
 use Rattle.frames.specs.ConversionDemands.{ConverterDemands, StripperDemands}
 
 -- a text that fits wherever any text does is never too long
@@ -112,17 +111,19 @@ module _ (sheet paper buffer : List ℕ) where
 
 -- ---- by what was read of the board sheet
 
-module _ (sheet : List ℕ) (xs : Numbers) (r : Result Shape Refusal) (read : IsRead r xs (read_instance sheet)) where
+module _ (sheet : List ℕ) (xs : Numbers) where
   module _ (buffer : List ℕ) where
-    pub converted-on : {b : Shape} {a : Output} → r ≡ Ok b → a ≡ convert_on (instance_from b (job_of xs)) buffer → a ≡ convert sheet buffer
-    converted-on e q = q ∙ sym (convert-accepted sheet buffer _ (read-accepted sheet r xs read _ e))
+    pub converted-on : (b : Shape) {a : Output} → read_instance sheet ≡ accepted (instance_from b (job_of xs)) → a ≡ convert_on (instance_from b (job_of xs)) buffer
+        → a ≡ convert sheet buffer
+    converted-on b e q = q ∙ sym (convert-accepted sheet buffer _ e)
 
-    pub unconverted : {e : Refusal} {n k : ℕ} → r ≡ Err e → n ≡ refusal_number e → k ≡ refusal_place e → unwritten n k buffer ≡ convert sheet buffer
-    unconverted q n k = let t = read-refused sheet r xs read _ q in rw (n, k, t.is) (sym (convert-refused sheet buffer _ t.line t.refused))
+    pub unconverted : (e : Refusal) → IsRead (Err e) xs (read_instance sheet) → as_output (Err e) buffer ≡ convert sheet buffer
+    unconverted e q = let f = read-refused sheet (Err e) xs q e refl in rw f.is (sym (convert-refused sheet buffer _ f.line f.refused))
 
   module _ (paper buffer : List ℕ) where
-    pub stripped-on : {b : Shape} {a : Output} → r ≡ Ok b → a ≡ strip_on (instance_from b (job_of xs)) paper buffer → a ≡ strip sheet paper buffer
-    stripped-on e q = q ∙ sym (strip-accepted sheet paper buffer _ (read-accepted sheet r xs read _ e))
+    pub stripped-on : (b : Shape) {a : Output} → read_instance sheet ≡ accepted (instance_from b (job_of xs)) → a ≡ strip_on (instance_from b (job_of xs)) paper buffer
+        → a ≡ strip sheet paper buffer
+    stripped-on b e q = q ∙ sym (strip-accepted sheet paper buffer _ e)
 
-    pub unstripped : {e : Refusal} {n k : ℕ} → r ≡ Err e → n ≡ refusal_number e → k ≡ refusal_place e → unwritten n k buffer ≡ strip sheet paper buffer
-    unstripped q n k = let t = read-refused sheet r xs read _ q in rw (n, k, t.is) (sym (strip-refused sheet paper buffer _ t.line t.refused))
+    pub unstripped : (e : Refusal) → IsRead (Err e) xs (read_instance sheet) → as_output (Err e) buffer ≡ strip sheet paper buffer
+    unstripped e q = let f = read-refused sheet (Err e) xs q e refl in rw f.is (sym (strip-refused sheet paper buffer _ f.line f.refused))

@@ -1,5 +1,7 @@
 -- The demands, from rules' promises.
 pub mod DemandLaws
+-- what the exit of a `?` answers
+pub mod SheetLaws
 -- the marker, by what was read
 pub mod MarkLaws
 -- a planner, by what was read and made

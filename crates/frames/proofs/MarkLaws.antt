@@ -5,21 +5,25 @@ use mathlib.Core.List.{List, []}
 use mathlib.Core.Path.{◌≡◌, refl, sym, ◌∙◌}
 use Rattle.rules.specs.Limits.{in_range}
 use Rattle.rules.specs.Model.{Instance}
-use Rattle.rules.specs.Validity.{refused_by, Verdict}
-use Rattle.rules.specs.Text.{in_sheet, fault_number}
+use Rattle.rules.specs.Validity.{refused_by, accepted_with, Verdict}
+use Rattle.rules.specs.Text as Text
+use Rattle.rules.specs.Text.{in_sheet, in_timetable, fault_number}
 use Rattle.rules.specs.InstanceText as Sheet
 use Rattle.rules.specs.InstanceText.{read_instance}
 use Rattle.rules.specs.ScheduleText as Paper
 use Rattle.rules.specs.ScheduleText.{read_schedule}
 use Rattle.rules.specs.Calls.{mark_on, mark_by, mark, line_at, fault_line}
-use Rattle.std.specs.Prelude.{Result, Ok, Err}
+use Rattle.std.specs.Prelude.{Err}
+use Rattle.rules.specs.declared.refusal.Fault.{Fault}
 use Rattle.rules.specs.declared.refusal.Refusal.{Refusal}
-use Rattle.rules.specs.Refusals.{refusal_number, refusal_place}
+use Rattle.model.specs.declared.claim.Claim.{Claim}
+use Rattle.model.specs.Claims.{as_claim}
+use Rattle.rules.specs.Refusals.{as_fault, refusal_number, refusal_place}
+use Rattle.instance.specs.Reads.{IsRead}
+use Rattle.instance.proofs.AcceptedLaws.{read-refused}
 use Rattle.model.specs.declared.layout.Shape.{Shape}
 use Rattle.model.specs.declared.layout.Numbers.{Numbers}
 use Rattle.model.specs.Layout.{job_of, instance_from}
-use Rattle.instance.specs.Reads.{IsRead}
-use Rattle.instance.proofs.AcceptedLaws.{read-accepted, read-refused}
 
 -- ---- the answer
 
@@ -35,14 +39,13 @@ mark-accepted sheet timetable I e = by_read (read_schedule I timetable) refl
     by_read (Paper.refused w k) f = rw (e, f, mark_by)
     by_read (Paper.read P c) f = rw (e, f, mark_by)
 
-module _ (sheet timetable : List ℕ) (xs : Numbers) (r : Result Shape Refusal) (read : IsRead r xs (read_instance sheet)) where
-  pub marked-on : {b : Shape} {v : Verdict} → r ≡ Ok b → v ≡ mark_on (instance_from b (job_of xs)) timetable → v ≡ mark sheet timetable
-  marked-on e q = q ∙ sym (mark-accepted sheet timetable _ (read-accepted sheet r xs read _ e))
+module _ (sheet timetable : List ℕ) (xs : Numbers) where
+  pub marked-on : (b : Shape) {v : Verdict} → read_instance sheet ≡ Sheet.accepted (instance_from b (job_of xs))
+      → v ≡ mark_on (instance_from b (job_of xs)) timetable → v ≡ mark sheet timetable
+  marked-on b e q = q ∙ sym (mark-accepted sheet timetable _ e)
 
-  pub marked_refused : {e : Refusal} {n k : ℕ} {v : Verdict} → r ≡ Err e → n ≡ refusal_number e → k ≡ refusal_place e → v ≡ refused_by n k
-      → v ≡ mark sheet timetable
-  marked_refused q n k v =
-      let t = read-refused sheet r xs read _ q in rw (v, n, k, t.is) (sym (mark-refused sheet timetable t.line t.refused))
+  pub marked_refused : (e : Refusal) → IsRead (Err e) xs (read_instance sheet) → refused_by (refusal_number e) (refusal_place e) ≡ mark sheet timetable
+  marked_refused e q = let f = read-refused sheet (Err e) xs q e refl in rw f.is (sym (mark-refused sheet timetable f.line f.refused))
 
 -- ---- the line at fault
 
@@ -70,3 +73,49 @@ module _ (sheet timetable : List ℕ) (v : Verdict) (marked : v ≡ mark sheet t
       let m : among 1 4 (mark sheet timetable).number ≡ false = rw marked at e in
       let n : among 11 14 (mark sheet timetable).number ≡ false = rw marked at f in
       rw (m, n, fault_line)
+
+-- a fault of either text has a number of its own
+in-sheet : (w : Text.Fault) → among 1 4 (fault_number in_sheet w) ≡ true
+in-sheet Text.too_long = refl
+in-sheet Text.malformed = refl
+in-sheet Text.out_of_range = refl
+in-sheet Text.undue = refl
+
+not-in-sheet : (w : Text.Fault) → among 1 4 (fault_number in_timetable w) ≡ false
+not-in-sheet Text.too_long = refl
+not-in-sheet Text.malformed = refl
+not-in-sheet Text.out_of_range = refl
+not-in-sheet Text.undue = refl
+
+in-paper : (w : Text.Fault) → among 11 14 (fault_number in_timetable w) ≡ true
+in-paper Text.too_long = refl
+in-paper Text.malformed = refl
+in-paper Text.out_of_range = refl
+in-paper Text.undue = refl
+
+-- by what the marker answers
+module _ (sheet timetable : List ℕ) where
+  pub line-in-sheet : (e : Refusal) {f : Fault} {k : ℕ} → e ≡ Refusal.Sheet f k → refused_by (refusal_number e) (refusal_place e) ≡ mark sheet timetable
+      → line_at sheet k ≡ fault_line sheet timetable
+  line-in-sheet e {f} {k} i q = fault-in-sheet sheet timetable (refused_by (fault_number in_sheet (as_fault f)) k) (rw i at q) (in-sheet (as_fault f))
+
+  pub line-in-paper : (e : Refusal) {f : Fault} {k : ℕ} → e ≡ Refusal.Timetable f k → refused_by (refusal_number e) (refusal_place e) ≡ mark sheet timetable
+      → line_at timetable k ≡ fault_line sheet timetable
+  line-in-paper e {f} {k} i q =
+      fault-in-paper sheet timetable (refused_by (fault_number in_timetable (as_fault f)) k) (rw i at q) (not-in-sheet (as_fault f)) (in-paper (as_fault f))
+
+  pub accepted-line : (c : Claim) → accepted_with (as_claim c) ≡ mark sheet timetable → [] ≡ fault_line sheet timetable
+  accepted-line c q = fault-nowhere sheet timetable (accepted_with (as_claim c)) q refl refl
+
+  pub no-line : (e : Refusal) → refused_by (refusal_number e) (refusal_place e) ≡ mark sheet timetable → ((f : Fault) (k : ℕ) → e ≡ Refusal.Sheet f k → ⊥)
+      → ((f : Fault) (k : ℕ) → e ≡ Refusal.Timetable f k → ⊥) → [] ≡ fault_line sheet timetable
+  no-line (Refusal.Sheet f k) q s t = absurd (s f k refl)
+  no-line (Refusal.Timetable f k) q s t = absurd (t f k refl)
+  no-line (Refusal.Overlap k) q s t = fault-nowhere sheet timetable (refused_by 15 k) q refl refl
+  no-line (Refusal.Early k) q s t = fault-nowhere sheet timetable (refused_by 16 k) q refl refl
+  no-line (Refusal.OverLimit k) q s t = fault-nowhere sheet timetable (refused_by 17 k) q refl refl
+  no-line Refusal.UntrueClaim q s t = fault-nowhere sheet timetable (refused_by 18 0) q refl refl
+  no-line (Refusal.Stuck k) q s t = fault-nowhere sheet timetable (refused_by 21 k) q refl refl
+  no-line (Refusal.Short k) q s t = fault-nowhere sheet timetable (refused_by 31 k) q refl refl
+  no-line Refusal.TooManyTasks q s t = fault-nowhere sheet timetable (refused_by 41 0) q refl refl
+  no-line Refusal.TooManyFiles q s t = fault-nowhere sheet timetable (refused_by 42 0) q refl refl

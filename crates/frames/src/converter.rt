@@ -5,35 +5,29 @@ ghost use Rattle.rules.specs.Stripping.{strip as rules-strip};
 ghost use Rattle.convert_text.specs.Answers.{as_output};
 ghost use Rattle.frames.specs.ConversionDemands.{ConverterDemands, StripperDemands};
 
-use convert_text::{Converted, convert_instance, strip_paper};
+use convert_text::{convert_instance, strip_paper};
+use model::job::Job;
 use model::layout;
+use rules::Refusal;
 
-// The converted sheet of a board sheet, written at the front of the buffer.
-pub fn convert(sheet: &[u8], out: &mut [u8]) -> Converted
+// The converted sheet of a board sheet, written at the front of the buffer: how many bytes that takes.
+pub fn convert(sheet: &[u8], out: &mut [u8]) -> Result<usize, Refusal>
     ensures answer { as_output result out.new ≡ rules-convert sheet.now out.old }
     ensures converter_demands { ConverterDemands sheet.now out.old (as_output result out.new) }
 {
-    let mut job = layout::Numbers::new();
-    match instance::read(sheet, &mut job) {
-        Err(refusal) => Converted {
-            number: refusal.number(),
-            place: refusal.place(),
-        },
-        Ok(shape) => convert_instance(shape, &job, out),
-    }
+    let mut numbers = layout::Numbers::new();
+    let shape = instance::read(sheet, &mut numbers)?;
+    let numbers = &numbers;
+    convert_instance(&Job { shape, numbers }, out)
 }
 
-// What is left of a timetable of the converted sheet, for the board sheet itself, written at the front of the buffer.
-pub fn strip<'a>(sheet: &'a [u8], paper: &'a [u8], out: &mut [u8]) -> Converted
+// What is left of a timetable of the converted sheet, for the board sheet itself, written at the front of the buffer: how many bytes that takes.
+pub fn strip(sheet: &[u8], paper: &[u8], out: &mut [u8]) -> Result<usize, Refusal>
     ensures answer { as_output result out.new ≡ rules-strip sheet.now paper.now out.old }
     ensures stripper_demands { StripperDemands sheet.now paper.now out.old (as_output result out.new) }
 {
-    let mut job = layout::Numbers::new();
-    match instance::read(sheet, &mut job) {
-        Err(refusal) => Converted {
-            number: refusal.number(),
-            place: refusal.place(),
-        },
-        Ok(shape) => strip_paper(shape, &job, paper, out),
-    }
+    let mut numbers = layout::Numbers::new();
+    let shape = instance::read(sheet, &mut numbers)?;
+    let numbers = &numbers;
+    strip_paper(&Job { shape, numbers }, paper, out)
 }

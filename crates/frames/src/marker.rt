@@ -5,20 +5,20 @@ ghost use Rattle.validator.specs.Answer.{as_verdict};
 ghost use Rattle.frames.specs.Demands.{MarkerDemands};
 
 use mark_text::mark_paper;
+use model::claim::Claim;
+use model::job::Job;
 use model::layout;
-use rules::between;
-use validator::judgement::Verdict;
+use rules::Refusal;
 
-// Marks a timetable on a board sheet: number, place, span and peaks.
-pub fn mark<'a>(sheet: &'a [u8], paper: &'a [u8]) -> Verdict
+// Marks a timetable on a board sheet: its claim, if it is accepted.
+pub fn mark(sheet: &[u8], paper: &[u8]) -> Result<Claim, Refusal>
     ensures answer { as_verdict result ≡ rules-mark sheet.now paper.now }
     ensures marker_demands { MarkerDemands sheet.now paper.now (as_verdict result) }
 {
-    let mut job = layout::Numbers::new();
-    match instance::read(sheet, &mut job) {
-        Err(refusal) => Verdict::refused(refusal.number(), refusal.place()),
-        Ok(shape) => mark_paper(shape, &job, paper),
-    }
+    let mut numbers = layout::Numbers::new();
+    let shape = instance::read(sheet, &mut numbers)?;
+    let numbers = &numbers;
+    mark_paper(&Job { shape, numbers }, paper)
 }
 
 // The line at fault: of the board sheet for 1 to 4, of the timetable for 11 to 14, without its LF; empty if
@@ -26,12 +26,12 @@ pub fn mark<'a>(sheet: &'a [u8], paper: &'a [u8]) -> Verdict
 pub fn fault_line<'a>(sheet: &'a [u8], paper: &'a [u8]) -> &'a [u8]
     ensures { result.now ≡ fault_line sheet.now paper.now }
 {
-    let verdict = mark(sheet, paper);
-    if between(verdict.number, 1, 4) {
-        return text::line_at(sheet, verdict.place);
+    let Err(refusal) = mark(sheet, paper) else {
+        return &sheet[..0];
+    };
+    match refusal {
+        Refusal::Sheet(_, line) => text::line_at(sheet, line),
+        Refusal::Timetable(_, line) => text::line_at(paper, line),
+        _ => &sheet[..0],
     }
-    if between(verdict.number, 11, 14) {
-        return text::line_at(paper, verdict.place);
-    }
-    &sheet[..0]
 }

@@ -5,8 +5,10 @@ ghost use Rattle.rules.specs.Scheduling.{plain, heft, min_min, mem_heft, mem_min
 ghost use Rattle.rules.specs.Simulation.{simulate as rules-simulate};
 ghost use Rattle.rules.specs.Conversion.{convert as rules-convert};
 ghost use Rattle.rules.specs.Stripping.{strip as rules-strip};
+ghost use Rattle.frames.specs.Planners.{as_planner};
 ghost use Rattle.frames_c.specs.Exports.{verdict_numbers, answer_numbers, simulation_numbers, output_numbers};
 
+use frames::{Planner, numbers_of};
 use rules::Board;
 
 // Number, place, span, blue peak and red peak of `mark`.
@@ -14,8 +16,10 @@ use rules::Board;
 pub extern "C" fn frames_mark<'a>(sheet: &'a [u8], paper: &'a [u8], numbers: &mut [u64; 5])
     ensures { numbers.new ≡ verdict_numbers (rules-mark sheet.now paper.now) }
 {
-    let v = frames::mark(sheet, paper);
-    *numbers = [v.number, v.place, v.span, v.blue_peak, v.red_peak];
+    *numbers = match frames::mark(sheet, paper) {
+        Ok(claim) => [0, 0, claim.span, claim.blue_peak, claim.red_peak],
+        Err(refusal) => [refusal.number(), refusal.place(), 0, 0, 0],
+    };
 }
 
 // The line of `fault_line`, copied to the front of `line` if it fits there; answers its length.
@@ -34,44 +38,50 @@ pub extern "C" fn frames_fault_line<'a>(sheet: &'a [u8], paper: &'a [u8], line: 
     found.len()
 }
 
-// Number, place and trials of `mem_heft`; the timetable is in `out`.
+// Number, place and trials of a planner.
+fn plan(planner: Planner, sheet: &[u8], out: &mut [u8], numbers: &mut [u64; 3])
+    ensures numbers { numbers.new ≡ answer_numbers (rules-plan (as_planner planner) sheet.now out.old) }
+    ensures buffer { out.new ≡ (rules-plan (as_planner planner) sheet.now out.old).buffer }
+{
+    let answer = frames::plan(planner, sheet, out);
+    let [number, place] = numbers_of(answer.written);
+    *numbers = [number, place, answer.trials];
+}
+
+// Number, place and trials of MemHEFT; the timetable is in `out`.
 #[unsafe(no_mangle)]
 pub extern "C" fn frames_mem_heft(sheet: &[u8], out: &mut [u8], numbers: &mut [u64; 3])
     ensures numbers { numbers.new ≡ answer_numbers (rules-plan mem_heft sheet.now out.old) }
     ensures buffer { out.new ≡ (rules-plan mem_heft sheet.now out.old).buffer }
 {
-    let a = frames::mem_heft(sheet, out);
-    *numbers = [a.number, a.place, a.trials];
+    plan(Planner::MemHeft, sheet, out, numbers);
 }
 
-// The same of `mem_min_min`.
+// The same of MemMinMin.
 #[unsafe(no_mangle)]
 pub extern "C" fn frames_mem_min_min(sheet: &[u8], out: &mut [u8], numbers: &mut [u64; 3])
     ensures numbers { numbers.new ≡ answer_numbers (rules-plan mem_min_min sheet.now out.old) }
     ensures buffer { out.new ≡ (rules-plan mem_min_min sheet.now out.old).buffer }
 {
-    let a = frames::mem_min_min(sheet, out);
-    *numbers = [a.number, a.place, a.trials];
+    plan(Planner::MemMinMin, sheet, out, numbers);
 }
 
-// The same of `heft`.
+// The same of HEFT.
 #[unsafe(no_mangle)]
 pub extern "C" fn frames_heft(sheet: &[u8], out: &mut [u8], numbers: &mut [u64; 3])
     ensures numbers { numbers.new ≡ answer_numbers (rules-plan (heft plain) sheet.now out.old) }
     ensures buffer { out.new ≡ (rules-plan (heft plain) sheet.now out.old).buffer }
 {
-    let a = frames::heft(sheet, out);
-    *numbers = [a.number, a.place, a.trials];
+    plan(Planner::Heft, sheet, out, numbers);
 }
 
-// The same of `min_min`.
+// The same of MINMIN.
 #[unsafe(no_mangle)]
 pub extern "C" fn frames_min_min(sheet: &[u8], out: &mut [u8], numbers: &mut [u64; 3])
     ensures numbers { numbers.new ≡ answer_numbers (rules-plan (min_min plain) sheet.now out.old) }
     ensures buffer { out.new ≡ (rules-plan (min_min plain) sheet.now out.old).buffer }
 {
-    let a = frames::min_min(sheet, out);
-    *numbers = [a.number, a.place, a.trials];
+    plan(Planner::MinMin, sheet, out, numbers);
 }
 
 // Number, place, 1 if steps are left, span, steps made and time of `simulate`; the task that each processor runs, or 0; where each file
@@ -113,8 +123,7 @@ pub extern "C" fn frames_convert(sheet: &[u8], out: &mut [u8], numbers: &mut [u6
     ensures numbers { numbers.new ≡ output_numbers (rules-convert sheet.now out.old) }
     ensures buffer { out.new ≡ (rules-convert sheet.now out.old).buffer }
 {
-    let a = frames::convert(sheet, out);
-    *numbers = [a.number, a.place];
+    *numbers = numbers_of(frames::convert(sheet, out));
 }
 
 // Number and place of `strip`; the timetable is in `out`.
@@ -128,6 +137,5 @@ pub extern "C" fn frames_strip<'a>(
     ensures numbers { numbers.new ≡ output_numbers (rules-strip sheet.now paper.now out.old) }
     ensures buffer { out.new ≡ (rules-strip sheet.now paper.now out.old).buffer }
 {
-    let a = frames::strip(sheet, paper, out);
-    *numbers = [a.number, a.place];
+    *numbers = numbers_of(frames::strip(sheet, paper, out));
 }

@@ -2,21 +2,21 @@
 // sheet that frameconvert prints (Order 7).
 #![tactic(auto)]
 
-use console::{Input, argument_count, print_text, read_named, report, strip};
+use console::{argument_count, print_text, read_named, report, strip};
 use std::io::Result;
 use std::rt::{Env, Files};
 
 // Prints what is left of a timetable, or the refusal.
-fn print_stripped<'a>(rt: &impl Print, sheet: &'a [u8], paper: &'a [u8]) -> Result<()> {
+fn print_stripped(rt: &impl Print, sheet: &[u8], paper: &[u8]) -> Result<()> {
     let mut out = io::large_buffer();
-    let a = strip(sheet, paper, &mut out);
-    print_text(rt, a.number, a.place, &out)
+    let written = strip(sheet, paper, &mut out);
+    print_text(rt, written, &out)
 }
 
 // Strips the timetable of argument 2. The buffers for texts are longer than a text may be, so a file that fills one is refused as too long.
 fn strip_argument(rt: &(impl Env + Files + Print), err: &impl Print, sheet: &[u8]) {
     let mut text = io::large_buffer();
-    let Input::Bytes(n) = read_named(rt, err, b"framestrip", 2, &mut text) else {
+    let Ok(n) = read_named(rt, err, b"framestrip", 2, &mut text) else {
         return;
     };
     if let Err(e) = print_stripped(rt, sheet, &text[..n]) {
@@ -31,7 +31,7 @@ fn main(rt: HostRuntime) {
         return;
     }
     let mut text = io::large_buffer();
-    let Input::Bytes(n) = read_named(&rt, &err, b"framestrip", 1, &mut text) else {
+    let Ok(n) = read_named(&rt, &err, b"framestrip", 1, &mut text) else {
         return;
     };
     strip_argument(&rt, &err, &text[..n]);

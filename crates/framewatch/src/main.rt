@@ -7,8 +7,8 @@ mod number;
 mod step;
 mod trace;
 
-use console::{Input, argument_count, read_named, report};
-use number::Number;
+use console::{argument_count, read_named, report};
+use number::number_of;
 use rules::Board;
 use std::io::Result;
 use std::rt::{Env, Files};
@@ -21,14 +21,14 @@ fn number_argument(
     name: &[u8],
     i: usize,
     otherwise: u64,
-) -> Number {
+) -> Option<u64> {
     if argument_count(rt) <= i {
-        return Number::Is(otherwise);
+        return Some(otherwise);
     }
     let mut text = io::buffer();
     let n = rt.arg(i, &mut text).unwrap_or(0);
-    let number = number::number_of(&text[..n]);
-    if let Number::Not = number {
+    let number = number_of(&text[..n]);
+    if number.is_none() {
         let _ = print_no_number(err, name);
     }
     number
@@ -45,7 +45,7 @@ fn print_no_number(err: &impl Print, name: &[u8]) -> Result<()> {
 // may be, so a file that fills one is refused as too long.
 fn watch(rt: &(impl Env + Files + Print), err: &impl Print, sheet: &[u8], made: u64, steps: u64) {
     let mut text = io::large_buffer();
-    let Input::Bytes(n) = read_named(rt, err, b"framewatch", 2, &mut text) else {
+    let Ok(n) = read_named(rt, err, b"framewatch", 2, &mut text) else {
         return;
     };
     if let Err(e) = trace::show(rt, sheet, &text[..n], made, steps) {
@@ -61,14 +61,14 @@ fn main(rt: HostRuntime) {
         let _ = err.write_all(b"usage: framewatch SHEET PAPER [STEPS [MADE]]\n");
         return;
     }
-    let Number::Is(steps) = number_argument(&rt, &err, b"STEPS", 3, Board::MAX_STEPS) else {
+    let Some(steps) = number_argument(&rt, &err, b"STEPS", 3, Board::MAX_STEPS) else {
         return;
     };
-    let Number::Is(made) = number_argument(&rt, &err, b"MADE", 4, 0) else {
+    let Some(made) = number_argument(&rt, &err, b"MADE", 4, 0) else {
         return;
     };
     let mut text = io::large_buffer();
-    let Input::Bytes(n) = read_named(&rt, &err, b"framewatch", 1, &mut text) else {
+    let Ok(n) = read_named(&rt, &err, b"framewatch", 1, &mut text) else {
         return;
     };
     watch(&rt, &err, &text[..n], made, steps);

@@ -19,11 +19,8 @@ module _ (I : Instance) (timetable : List ℕ) (P : Schedule) (r : Result Claim 
   pub paper-judged : {c : Claim} {v : Verdict} → r ≡ Ok c → v ≡ judge I P (as_claim c) → Marked I timetable P v
   paper-judged {c} e q = rw q (judges (as_claim c) (was_read I timetable P r read e))
 
-  pub paper-refused : {e : Refusal} {n k : ℕ} {v : Verdict} → r ≡ Err e → n ≡ refusal_number e → k ≡ refusal_place e → v ≡ refused_by n k
-      → Marked I timetable P v
-  paper-refused q n k v =
-      let t = was-refused I timetable P r read q in
-      rw (v, n, k, t.is) (by_text (as_fault t.fault) t.line t.refused)
+  pub paper-refused : {e : Refusal} → r ≡ Err e → Marked I timetable P (refused_by (refusal_number e) (refusal_place e))
+  paper-refused q = let t = was-refused I timetable P r read q in rw t.is (by_text (as_fault t.fault) t.line t.refused)
 
 -- whatever was read, the verdict is the marker's
 pub marked-is : (I : Instance) (timetable : List ℕ) {P : Schedule} {v : Verdict} → Marked I timetable P v → v ≡ mark_on I timetable

@@ -1,43 +1,43 @@
-// A timetable marked on an instance: read, and judged if it can be.
+// A timetable marked on a job: read, and judged if it can be.
 #![tactic(auto)]
 
 ghost use Rattle.std.specs.Prelude.{◌≡◌};
 ghost use Rattle.rules.specs.Calls.{mark_on};
 ghost use Rattle.rules.specs.Promises.{WellFormed};
-ghost use Rattle.model.specs.Layout.{instance_of, schedule_of};
+ghost use Rattle.model.specs.Jobs.{instance_in};
+ghost use Rattle.model.specs.Layout.{schedule_of};
 ghost use Rattle.validator.specs.Answer.{as_verdict};
 ghost use Rattle.mark_text.specs.Marked.{Marked};
 
+use model::claim::Claim;
 use model::job::Job;
 use model::layout;
-use model::layout::Shape;
-use validator::judgement::{Verdict, judge};
+use model::timetable::Timetable;
+use rules::Refusal;
+use validator::judgement::judge;
 
-// Marks a timetable on the instance of an accepted board sheet, and leaves in the schedule what was read of it.
-pub fn mark_into<'a>(
-    shape: Shape,
-    job: &'a layout::Numbers,
-    paper: &'a [u8],
+// Marks a timetable on the job of an accepted board sheet, and leaves in the schedule what was read of it.
+pub fn mark_into(
+    job: &Job,
+    paper: &[u8],
     schedule: &mut layout::Schedule,
-) -> Verdict
-    requires { WellFormed (instance_of shape job.now) }
-    ensures { Marked (instance_of shape job.now) paper.now (schedule_of shape schedule.new) (as_verdict result) }
+) -> Result<Claim, Refusal>
+    requires { WellFormed (instance_in job.now) }
+    ensures { Marked (instance_in job.now) paper.now (schedule_of job.now.shape schedule.new) (as_verdict result) }
 {
-    let lent = Job {
-        shape,
-        numbers: job,
+    let claim = schedule::read(job, paper, schedule)?;
+    let timetable = Timetable {
+        job: *job,
+        schedule,
     };
-    match schedule::read(&lent, paper, schedule) {
-        Err(refusal) => Verdict::refused(refusal.number(), refusal.place()),
-        Ok(claim) => judge(shape, job, schedule, claim),
-    }
+    judge(&timetable, claim)
 }
 
-// Marks a timetable on the instance of an accepted board sheet.
-pub fn mark_paper<'a>(shape: Shape, job: &'a layout::Numbers, paper: &'a [u8]) -> Verdict
-    requires { WellFormed (instance_of shape job.now) }
-    ensures { as_verdict result ≡ mark_on (instance_of shape job.now) paper.now }
+// Marks a timetable on the job of an accepted board sheet.
+pub fn mark_paper(job: &Job, paper: &[u8]) -> Result<Claim, Refusal>
+    requires { WellFormed (instance_in job.now) }
+    ensures { as_verdict result ≡ mark_on (instance_in job.now) paper.now }
 {
     let mut schedule = layout::Schedule::new();
-    mark_into(shape, job, paper, &mut schedule)
+    mark_into(job, paper, &mut schedule)
 }

@@ -3,21 +3,19 @@
 
 mod peaks;
 
-use console::print_number;
 use peaks::by_changes;
 use std::io::Result;
 
 // Prints what is shown, the verdict, and the line at fault.
 pub fn show<'a>(rt: &impl Print, what: &'a [u8], sheet: &'a [u8], paper: &'a [u8]) -> Result<()> {
-    let v = frames::mark(sheet, paper);
     rt.write_all(what)?;
-    rt.write_all(b":")?;
-    print_number(rt, v.number)?;
-    print_number(rt, v.place)?;
-    print_number(rt, v.span)?;
-    print_number(rt, v.blue_peak)?;
-    print_number(rt, v.red_peak)?;
-    rt.write_all(b" [")?;
+    match frames::mark(sheet, paper) {
+        Ok(claim) => print!(rt;
+            ": 0 0 {} {} {} [",
+            claim.span, claim.blue_peak, claim.red_peak
+        )?,
+        Err(refusal) => print!(rt; ": {} {} 0 0 0 [", refusal.number(), refusal.place())?,
+    }
     rt.write_all(frames::fault_line(sheet, paper))?;
     rt.write_all(b"]\n")
 }

@@ -2,24 +2,9 @@
 // the marker says to it on the same sheet.
 #![tactic(auto)]
 
-use console::{Input, Planner, plan, print_answer, print_numbers, print_plan_mark, read_file};
+use console::{Planner, print_numbers, read_file, show_plan};
 use std::io::Result;
 use std::rt::Files;
-
-// One planner on a sheet: its answer, and how its timetable is marked.
-fn show_plan<'a>(
-    rt: &impl Print,
-    name: &'a [u8],
-    label: &'a [u8],
-    planner: Planner,
-    sheet: &'a [u8],
-) -> Result<()> {
-    let mut out = io::large_buffer();
-    let a = plan(planner, sheet, &mut out);
-    print_numbers(rt, name, label, a)?;
-    print_answer(rt, a, &out)?;
-    print_plan_mark(rt, sheet, a, &out)
-}
 
 // Each plain planner, and behind it the memory-aware one.
 fn show_planners<'a>(rt: &impl Print, name: &'a [u8], sheet: &'a [u8]) -> Result<()> {
@@ -32,7 +17,7 @@ fn show_planners<'a>(rt: &impl Print, name: &'a [u8], sheet: &'a [u8]) -> Result
 // The planners on the sheet of a file.
 fn show(rt: &(impl Files + Print), err: &impl Print, name: &[u8]) -> Result<()> {
     let mut sheet = io::large_buffer();
-    let Input::Bytes(n) = read_file(rt, err, b"plain_examples", name, &mut sheet) else {
+    let Ok(n) = read_file(rt, err, b"plain_examples", name, &mut sheet) else {
         return Ok(());
     };
     show_planners(rt, name, &sheet[..n])
@@ -43,8 +28,8 @@ fn show_short(rt: &impl Print) -> Result<()> {
     let sheet =
         b"(board (blue 1 6) (red 1 6))\n(task 1 4 2)\n(task 2 3 5)\n(task 3 2 6)\n(file 1 2 2 1)\n(file 1 3 3 2)\n";
     let mut out = [b'.'; 75];
-    let a = frames::heft(sheet, &mut out);
-    print_numbers(rt, b"75 bytes", b", HEFT:", a)?;
+    let answer = frames::plan(Planner::Heft, sheet, &mut out);
+    print_numbers(rt, b"75 bytes", b", HEFT:", answer)?;
     rt.write_all(&out)?;
     rt.write_all(b"\n")
 }

@@ -1,82 +1,72 @@
-// An instance planned, and its timetable written into a lent buffer.
+// A job planned, and its timetable written into a lent buffer.
 #![tactic(auto)]
 
-ghost use Rattle.std.specs.Prelude.{◌≡◌};
+ghost use Rattle.std.specs.Prelude.{◌≡◌, ℕ, [], ◌∷◌};
 ghost use Rattle.rules.specs.Calls.{plan_text, written, plan_on};
 ghost use Rattle.rules.specs.Promises.{WellFormed};
 ghost use Rattle.rules.specs.Validity.{true_claim};
 ghost use Rattle.model.specs.Claims.{as_claim};
-ghost use Rattle.model.specs.Layout.{instance_of, schedule_of, JobInBounds};
+ghost use Rattle.model.specs.Jobs.{instance_in};
+ghost use Rattle.model.specs.Layout.{schedule_of};
 ghost use Rattle.planner.specs.Outcomes.{as_planner};
-ghost use Rattle.plan_text.specs.Answers.{as_answer};
+ghost use Rattle.plan_text.specs.Answers.{number_of, place_of, answer_of, as_answer};
 
 use model::claim::Claim;
 use model::job::Job;
 use model::layout;
-use model::layout::Shape;
 use planner::Rule;
+use rules::Refusal;
 
-// A planner's answer: on success the number is 0 and the place the bytes written.
+// A planner's answer: the bytes that its timetable takes, or why there is none; and the trials made.
 #[derive(Clone, Copy)]
 pub struct Answer {
-    pub number: u64,
-    pub place: u64,
+    pub written: Result<usize, Refusal>,
     pub trials: u64,
 }
 
-impl Answer {
-    pub const STUCK: u64 = 21;
-
-    pub const SHORT: u64 = 31;
-}
-
-// Writes a schedule with its true claim, if the buffer is long enough.
-pub fn write_plan<'a>(
-    shape: Shape,
-    job: &'a layout::Numbers,
-    schedule: &'a layout::Schedule,
-    claim: Claim,
-    trials: u64,
-    out: &mut [u8],
-) -> Answer
-    requires job_in_bounds { JobInBounds shape job.now }
-    requires claim_value { as_claim claim ≡ true_claim (instance_of shape job.now) (schedule_of shape schedule.now) }
-    ensures { as_answer result out.new ≡
-        written (plan_text (instance_of shape job.now) (schedule_of shape schedule.now)) out.old trials }
+// Document 01's number and place of a call that writes: 0 and the bytes written, or the refusal's.
+pub fn numbers_of(written: Result<usize, Refusal>) -> [u64; 2]
+    ensures { result ≡ number_of written ∷ place_of written ∷ [] }
 {
-    let lent = Job {
-        shape,
-        numbers: job,
-    };
-    let size = schedule::schedule_size(&lent, schedule, claim);
-    if out.len() < size {
-        return Answer {
-            number: Answer::SHORT,
-            place: size as u64,
-            trials,
-        };
-    }
-    let end = schedule::write(&lent, schedule, claim, out);
-    Answer {
-        number: 0,
-        place: end as u64,
-        trials,
+    match written {
+        Ok(size) => [0, size as u64],
+        Err(refusal) => [refusal.number(), refusal.place()],
     }
 }
 
-// The planner on the instance of an accepted board sheet.
-pub fn plan_instance(rule: Rule, shape: Shape, job: &layout::Numbers, out: &mut [u8]) -> Answer
-    requires { WellFormed (instance_of shape job.now) }
-    ensures { as_answer result out.new ≡ plan_on (as_planner rule) (instance_of shape job.now) out.old }
+// Writes a schedule with its true claim, if the buffer is long enough, and answers how many bytes that takes.
+pub fn write_plan(
+    job: &Job,
+    schedule: &layout::Schedule,
+    claim: Claim,
+    out: &mut [u8],
+) -> Result<usize, Refusal>
+    requires { as_claim claim ≡ true_claim (instance_in job.now) (schedule_of job.now.shape schedule.now) }
+    ensures { (trials : ℕ) → answer_of result trials out.new ≡
+        written (plan_text (instance_in job.now) (schedule_of job.now.shape schedule.now)) out.old trials }
+{
+    let size = schedule::schedule_size(job, schedule, claim);
+    if out.len() < size {
+        return Err(Refusal::Short(size as u64));
+    }
+    Ok(schedule::write(job, schedule, claim, out))
+}
+
+// The planner on the job of an accepted board sheet.
+pub fn plan_instance(rule: Rule, job: &Job, out: &mut [u8]) -> Answer
+    requires { WellFormed (instance_in job.now) }
+    ensures { as_answer result out.new ≡ plan_on (as_planner rule) (instance_in job.now) out.old }
 {
     let mut schedule = layout::Schedule::new();
-    let outcome = planner::run(rule, shape, job, &mut schedule);
+    let outcome = planner::run(rule, job.shape, job.numbers, &mut schedule);
     let trials = outcome.trials;
     match outcome.claim {
-        Ok(claim) => write_plan(shape, job, &schedule, claim, trials, out),
+        Ok(claim) => Answer {
+            written: write_plan(job, &schedule, claim, out),
+            trials,
+        },
         Err(stuck) => Answer {
-            number: Answer::STUCK,
-            place: stuck.placed,
+            written: Err(Refusal::Stuck(stuck.placed)),
             trials,
         },
     }

@@ -1,7 +1,7 @@
 // Both memory-aware planners on the sheets of data/, those with relays last, and a buffer one byte too short.
 #![tactic(auto)]
 
-use console::{Input, Planner, plan, print_answer, print_numbers, read_file};
+use console::{Planner, plan, print_numbers, print_text, read_file};
 use std::io::Result;
 use std::rt::Files;
 
@@ -13,15 +13,15 @@ fn show_plan<'a>(
     sheet: &'a [u8],
 ) -> Result<()> {
     let mut out = io::large_buffer();
-    let a = plan(planner, sheet, &mut out);
-    print_numbers(rt, name, label, a)?;
-    print_answer(rt, a, &out)
+    let answer = plan(planner, sheet, &mut out);
+    print_numbers(rt, name, label, answer)?;
+    print_text(rt, answer.written, &out)
 }
 
 // Both memory-aware planners on the sheet of a file.
 fn show(rt: &(impl Files + Print), err: &impl Print, name: &[u8]) -> Result<()> {
     let mut sheet = io::large_buffer();
-    let Input::Bytes(n) = read_file(rt, err, b"planner_examples", name, &mut sheet) else {
+    let Ok(n) = read_file(rt, err, b"planner_examples", name, &mut sheet) else {
         return Ok(());
     };
     show_plan(rt, name, b", MemHEFT:", Planner::MemHeft, &sheet[..n])?;
@@ -33,8 +33,8 @@ fn show_short(rt: &impl Print) -> Result<()> {
     let sheet =
         b"(board (blue 1 6) (red 1 6))\n(task 1 4 2)\n(task 2 3 5)\n(task 3 2 6)\n(file 1 2 2 1)\n(file 1 3 3 2)\n";
     let mut out = [b'.'; 75];
-    let a = frames::mem_heft(sheet, &mut out);
-    print_numbers(rt, b"75 bytes", b", MemHEFT:", a)?;
+    let answer = frames::plan(Planner::MemHeft, sheet, &mut out);
+    print_numbers(rt, b"75 bytes", b", MemHEFT:", answer)?;
     rt.write_all(&out)?;
     rt.write_all(b"\n")
 }

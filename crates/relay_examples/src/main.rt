@@ -1,15 +1,8 @@
 // Timetables with relays marked, tasks of run time 0 on the colour that they run on: where one may stand, and what it holds (Order 1).
 #![tactic(auto)]
 
-use console::print_verdict;
+use console::show_verdict as show;
 use std::io::Result;
-
-// Prints what is shown, and the verdict.
-fn show<'a>(rt: &impl Print, what: &'a [u8], sheet: &'a [u8], paper: &'a [u8]) -> Result<()> {
-    rt.write_all(what)?;
-    rt.write_all(b": ")?;
-    print_verdict(rt, frames::mark(sheet, paper))
-}
 
 // Task 1 takes time; task 2 is a relay on blue, and takes time on red.
 fn beside_a_run(rt: &impl Print) -> Result<()> {

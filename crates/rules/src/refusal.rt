@@ -3,6 +3,8 @@ ghost use Rattle.std.specs.Prelude.{◌≡◌};
 ghost use Rattle.rules.specs.Text.{in_sheet, fault_number};
 ghost use Rattle.rules.specs.Refusals.{as_fault, refusal_number, refusal_place};
 
+use std::fmt;
+
 // What is wrong with a text.
 #[derive(Clone, Copy, PartialEq, Eq)]
 pub enum Fault {
@@ -87,5 +89,12 @@ impl Refusal {
             | Refusal::Short(place) => place,
             Refusal::UntrueClaim | Refusal::TooManyTasks | Refusal::TooManyFiles => 0,
         }
+    }
+}
+
+// `(refused N K)`, as the programs print it.
+impl fmt::Display for Refusal {
+    fn fmt<W: fmt::Write>(&self, f: &mut fmt::Formatter<W>) -> fmt::Result {
+        write!(f, "(refused {} {})", self.number(), self.place())
     }
 }

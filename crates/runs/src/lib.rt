@@ -7,7 +7,7 @@ ghost use Rattle.runs.specs.First.{FirstOverlap};
 ghost use Rattle.runs.specs.Scan.{overlapping, overlaps_at, no_run};
 
 // A run of a task: on a processor, from its start until its finish.
-#[derive(Clone, Copy)]
+#[derive(Clone, Copy, Default)]
 pub struct Run {
     pub processor: u64,
     pub start: u64,

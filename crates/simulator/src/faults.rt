@@ -23,10 +23,7 @@ fn overlapping_tasks(t: &Timetable, i: usize, j: usize) -> bool
     if i == j {
         return false;
     }
-    let shape = t.job.shape;
-    let one = run_of(shape, t.job.numbers, t.schedule, i);
-    let other = run_of(shape, t.job.numbers, t.schedule, j);
-    overlapping_runs(one, other)
+    overlapping_runs(run_of(t, i), run_of(t, j))
 }
 
 // Whether task j's run starts by the tick and overlaps task i's.

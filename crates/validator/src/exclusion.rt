@@ -1,68 +1,47 @@
-// The runs of a schedule as a list of records, and the lowest task whose run overlaps another's.
-ghost use Rattle.std.specs.Prelude.{◌≡◌, ◌<◌};
+// The runs of a timetable as a list of records, and the lowest task whose run overlaps another's.
+ghost use Rattle.std.specs.Prelude.{◌≡◌, ◌<◌, IfSome, length};
+ghost use Rattle.std.specs.Option.{unwrap_or};
 ghost use Rattle.rules.specs.Count.{first_below};
 ghost use Rattle.rules.specs.Model.{task_count};
 ghost use Rattle.rules.specs.Validity.{overlaps};
-ghost use Rattle.model.specs.Layout.{instance_of, schedule_of, InBounds};
+ghost use Rattle.model.specs.Jobs.{instance_in, schedule_in};
 ghost use Rattle.validator.specs.Records.{record_at, Records};
 
-use model::layout;
-use model::layout::Shape;
-use model::residency::finish;
+use arrayvec::ArrayVec;
+use model::timetable::Timetable;
 use rules::Board;
 use runs::Run;
 
 // The run of task i.
-pub fn run_of<'a>(
-    shape: Shape,
-    job: &'a layout::Numbers,
-    schedule: &'a layout::Schedule,
-    i: usize,
-) -> Run
-    requires in_bounds { InBounds shape job.now schedule.now }
-    requires i_lt_tasks { i < shape.tasks }
-    ensures { result ≡ record_at (instance_of shape job.now) (schedule_of shape schedule.now) i }
+pub fn run_of(t: &Timetable, i: usize) -> Run
+    requires { i < t.now.job.shape.tasks }
+    ensures { result ≡ record_at (instance_in t.now.job) (schedule_in t.now) i }
 {
     Run {
-        processor: layout::processor(schedule, i),
-        start: layout::start(schedule, i),
-        finish: finish(shape, job, schedule, i),
+        processor: t.processor(i),
+        start: t.start(i),
+        finish: t.finish(i),
     }
 }
 
-// The runs of all tasks; past them the array holds no runs.
-fn all_runs<'a>(
-    shape: Shape,
-    job: &'a layout::Numbers,
-    schedule: &'a layout::Schedule,
-) -> [Run; Board::MAX_TASKS]
-    requires { InBounds shape job.now schedule.now }
-    ensures { Records (instance_of shape job.now) (schedule_of shape schedule.now) shape.tasks result }
+// The runs of all tasks.
+fn all_runs(t: &Timetable) -> ArrayVec<Run, { Board::MAX_TASKS }>
+    ensures count { length result.items ≡ t.now.job.shape.tasks }
+    ensures records { Records (instance_in t.now.job) (schedule_in t.now) t.now.job.shape.tasks result.items }
 {
-    let mut all = [Run {
-        processor: 0,
-        start: 0,
-        finish: 0,
-    }; Board::MAX_TASKS];
-    let mut i: usize = 0;
-    while i < shape.tasks {
-        all[i] = run_of(shape, job, schedule, i);
-        i += 1;
+    let mut all = ArrayVec::new();
+    for i in 0..t.job.shape.tasks {
+        all.push(run_of(t, i));
     }
     all
 }
 
-// The lowest task that shares an instant with another run on its processor, or the number of tasks.
-pub fn first_overlapping<'a>(
-    shape: Shape,
-    job: &'a layout::Numbers,
-    schedule: &'a layout::Schedule,
-) -> usize
-    requires { InBounds shape job.now schedule.now }
-    ensures { result ≡
-        first_below (task_count (instance_of shape job.now))
-        (overlaps (instance_of shape job.now) (schedule_of shape schedule.now)) }
+// The lowest task that shares an instant with another run on its processor.
+pub fn first_overlapping(t: &Timetable) -> Option<usize>
+    ensures in_range { IfSome result (λ i. i < t.now.job.shape.tasks) }
+    ensures lowest { unwrap_or result t.now.job.shape.tasks ≡
+        first_below (task_count (instance_in t.now.job)) (overlaps (instance_in t.now.job) (schedule_in t.now)) }
 {
-    let all = all_runs(shape, job, schedule);
-    runs::first_overlap(&all[..shape.tasks]).unwrap_or(shape.tasks)
+    let all = all_runs(t);
+    runs::first_overlap(all.as_slice())
 }

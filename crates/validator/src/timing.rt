@@ -1,15 +1,14 @@
 // Files that move before they are made, or are read before they arrive.
-ghost use Rattle.std.specs.Prelude.{◌≡◌, ◌<◌};
+ghost use Rattle.std.specs.Prelude.{◌≡◌, ◌<◌, IfSome};
+ghost use Rattle.std.specs.Option.{unwrap_or};
 ghost use Rattle.rules.specs.Count.{first_below};
 ghost use Rattle.rules.specs.Model.{task_count};
 ghost use Rattle.rules.specs.Validity.{early, reads_early};
-ghost use Rattle.model.specs.Layout.{instance_of, schedule_of, InBounds};
+ghost use Rattle.model.specs.Jobs.{instance_in, schedule_in};
 ghost use Rattle.validator.specs.Early.{moves_early, starts_early, too_early};
 
-use model::choice::{lesser, select};
-use model::layout;
-use model::layout::Shape;
-use model::residency::{FileTimes, file_times};
+use model::residency::FileTimes;
+use model::timetable::Timetable;
 
 // Whether a file with these times moves before it is made.
 pub fn moves_early(times: FileTimes) -> bool
@@ -34,45 +33,29 @@ pub fn starts_early(times: FileTimes) -> bool
 fn too_early(times: FileTimes) -> bool
     ensures { result ≡ too_early times }
 {
-    if moves_early(times) {
-        return true;
-    }
-    starts_early(times)
+    moves_early(times) || starts_early(times)
 }
 
 // Whether file k is early.
-fn early_file<'a>(
-    shape: Shape,
-    job: &'a layout::Numbers,
-    schedule: &'a layout::Schedule,
-    k: usize,
-) -> bool
-    requires in_bounds { InBounds shape job.now schedule.now }
-    requires k_lt_files { k < shape.files }
-    ensures { result ≡ early (instance_of shape job.now) (schedule_of shape schedule.now) k }
+fn early_file(t: &Timetable, k: usize) -> bool
+    requires { k < t.now.job.shape.files }
+    ensures { result ≡ early (instance_in t.now.job) (schedule_in t.now) k }
 {
-    too_early(file_times(shape, job, schedule, k))
+    too_early(t.file_times(k))
 }
 
-// The lowest task that reads an early file, or the number of tasks.
-pub fn first_early<'a>(
-    shape: Shape,
-    job: &'a layout::Numbers,
-    schedule: &'a layout::Schedule,
-) -> u64
-    requires { InBounds shape job.now schedule.now }
-    ensures { result ≡
-        first_below (task_count (instance_of shape job.now))
-        (reads_early (instance_of shape job.now) (schedule_of shape schedule.now)) }
+// The lowest task that reads an early file.
+pub fn first_early(t: &Timetable) -> Option<usize>
+    ensures in_range { IfSome result (λ i. i < t.now.job.shape.tasks) }
+    ensures lowest { unwrap_or result t.now.job.shape.tasks ≡
+        first_below (task_count (instance_in t.now.job)) (reads_early (instance_in t.now.job) (schedule_in t.now)) }
 {
-    let tasks = shape.tasks as u64;
-    let mut first: u64 = tasks;
-    let mut i: usize = 0;
-    while i < shape.files {
-        let is_early = early_file(shape, job, schedule, i);
-        let reader = layout::reader(shape, job, i);
-        first = lesser(first, select(is_early, reader, tasks));
-        i += 1;
+    let tasks = t.job.shape.tasks;
+    let mut first = tasks;
+    for k in 0..t.job.shape.files {
+        if early_file(t, k) {
+            first = first.min(t.job.reader(k));
+        }
     }
-    first
+    if first < tasks { Some(first) } else { None }
 }

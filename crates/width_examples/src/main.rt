@@ -2,15 +2,8 @@
 // where a range is as it was. Each line says what is shown and how the timetable is marked; under a refusal of a line stands that line.
 #![tactic(auto)]
 
-use console::print_marks;
+use console::show_marks as show;
 use std::io::Result;
-
-// Prints what is shown, how a timetable is marked, and the line at fault.
-fn show<'a>(rt: &impl Print, what: &'a [u8], sheet: &'a [u8], paper: &'a [u8]) -> Result<()> {
-    rt.write_all(what)?;
-    rt.write_all(b": ")?;
-    print_marks(rt, sheet, paper)
-}
 
 // A board sheet with one task that takes a tick on blue and none on red, and a timetable of it.
 fn show_paper<'a>(rt: &impl Print, what: &'a [u8], paper: &'a [u8]) -> Result<()> {

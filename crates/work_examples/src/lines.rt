@@ -1,13 +1,6 @@
 // Task lines with W: each with the timetable that is right for a task of 4 ticks on blue.
-use console::print_marks;
+use console::show_marks as show;
 use std::io::Result;
-
-// Prints what is shown, and how a timetable is marked; under a refusal of a line stands that line.
-fn show<'a>(rt: &impl Print, what: &'a [u8], sheet: &'a [u8], paper: &'a [u8]) -> Result<()> {
-    rt.write_all(what)?;
-    rt.write_all(b": ")?;
-    print_marks(rt, sheet, paper)
-}
 
 // W from 1 to 1000000; left out, it is 0.
 fn ranges(rt: &impl Print) -> Result<()> {

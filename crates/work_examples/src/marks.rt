@@ -1,13 +1,6 @@
 // Timetables of tasks with W: where W is held, and how long.
-use console::print_verdict;
+use console::show_verdict as show;
 use std::io::Result;
-
-// Prints what is shown, and the verdict.
-fn show<'a>(rt: &impl Print, what: &'a [u8], sheet: &'a [u8], paper: &'a [u8]) -> Result<()> {
-    rt.write_all(what)?;
-    rt.write_all(b": ")?;
-    print_verdict(rt, frames::mark(sheet, paper))
-}
 
 // A W of 5, on a board with 5 blocks of blue memory and 3 of red.
 fn alone(rt: &impl Print) -> Result<()> {

@@ -1,28 +1,13 @@
 // Plans of tasks with W: start 3 asks for it, start 4 does not, and a plain planner asks for neither.
-use console::{Planner, plan, print_answer, print_numbers, print_plan_mark};
+use console::{Planner, show_plan};
 use std::io::Result;
-
-// One planner on a sheet: its answer, and how its timetable is marked.
-fn show_planner<'a>(
-    rt: &impl Print,
-    what: &'a [u8],
-    label: &'a [u8],
-    planner: Planner,
-    sheet: &'a [u8],
-) -> Result<()> {
-    let mut out = io::large_buffer();
-    let a = plan(planner, sheet, &mut out);
-    print_numbers(rt, what, label, a)?;
-    print_answer(rt, a, &out)?;
-    print_plan_mark(rt, sheet, a, &out)
-}
 
 // All four planners on a sheet.
 fn show<'a>(rt: &impl Print, what: &'a [u8], sheet: &'a [u8]) -> Result<()> {
-    show_planner(rt, what, b", MemHEFT:", Planner::MemHeft, sheet)?;
-    show_planner(rt, what, b", MemMinMin:", Planner::MemMinMin, sheet)?;
-    show_planner(rt, what, b", HEFT:", Planner::Heft, sheet)?;
-    show_planner(rt, what, b", MINMIN:", Planner::MinMin, sheet)
+    show_plan(rt, what, b", MemHEFT:", Planner::MemHeft, sheet)?;
+    show_plan(rt, what, b", MemMinMin:", Planner::MemMinMin, sheet)?;
+    show_plan(rt, what, b", HEFT:", Planner::Heft, sheet)?;
+    show_plan(rt, what, b", MINMIN:", Planner::MinMin, sheet)
 }
 
 // W alone.

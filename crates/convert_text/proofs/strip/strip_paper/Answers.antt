@@ -1,48 +1,36 @@
--- `strip_paper` meets its contract: refused by 41 or 42, or answered by what the marker finds on the converted job.
-use mathlib.Core.Path.{sym, ◌∙◌}
-use native.Mathlib.Omega.{arith}
-use Rattle.rules.specs.ScheduleText.{read_schedule}
-use Rattle.rules.specs.Conversion.{converted}
-use Rattle.rules.specs.Stripping.{strip_read}
-use Rattle.model.specs.Layout.{job_of, instance_from}
-use Rattle.model.proofs.LayoutLaws.{job-bounds}
-use Rattle.convert_text.proofs.RefusalLaws.{is-refused, is-converted, fits}
+-- `strip_paper` meets its contract: refused by 41 or 42, or as the marker refuses the timetable, or what is left of it is written.
+use mathlib.Core.Path.{refl, sym, ◌∙◌}
+use Rattle.std.proofs.lemmas.Result.{err_from_is_err_and}
+use Rattle.model.specs.Jobs.{instance_in}
+use Rattle.convert_text.proofs.RefusalLaws.{passes, numbered}
+use Rattle.convert_text.proofs.SheetLaws.{wide-formed, wide_bounds}
+use Rattle.convert_text.proofs.LeftLaws.{left-refused, left-made, left-good}
 use Rattle.convert_text.proofs.strip.strip_paper.Goals as goal
 
-pub added-more-requires : goal.added-more-requires
-added-more-requires c = (job-bounds c.args.shape (job_of c.args.job.now) c.requires).tasks
+pub invariant_of-mark_into : goal.invariant_of-mark_into
+invariant_of-mark_into c = record { in_bounds = wide_bounds c.in_ok-shape.ensures c.requires }
 
-pub refusal-number-requires : goal.refusal-number-requires
-refusal-number-requires c =
-    let b = job-bounds c.args.shape (job_of c.args.job.now) c.requires in
-    (b.tasks, b.files, omega (arith, c.added-more.ensures.upper_bound, b.tasks))
+pub mark_into-requires : goal.mark_into-requires
+mark_into-requires c = wide-formed c.in_ok-shape.ensures c.requires
 
-pub returns-then-number-ne0 : goal.returns-then-number-ne0
-returns-then-number-ne0 c =
-    let b = c.args.shape in
-    let J = job_of c.args.job.now in
-    let I = instance_from b J in
+pub returns-in_err-mark_into : goal.returns-in_err-mark_into
+returns-in_err-mark_into c =
+    let I = instance_in c.args.job.now in
+    let x = c.in_ok-shape.ensures in
     let old = c.args.out.now in
-    is-refused b J _ c.added-more.ensures.value old (strip_read I old (read_schedule (converted I) c.args.paper.now)) c.refusal-number.ensures c.if-number-ne0.true
+    let p = err_from_is_err_and c.from_residual-in_err-mark_into.result c.from_residual-in_err-mark_into.ensures.1 in
+    rw (p.1, p.2)
+    (left-refused x c.args.paper.now c.mark_into.new.schedule c.in_err-mark_into.ensures old (numbered c.in_err-mark_into.field-0.0)
+    ∙ sym (passes I x.convertible old _))
 
-pub strip_marked-requires : goal.strip_marked-requires
-strip_marked-requires c =
-    let b = c.args.shape in
-    let J = job_of c.args.job.now in
-    let I = instance_from b J in
-    let old = c.args.out.now in
-    let e = c.added-more.ensures.value in
-    let k = is-converted b J _ e old (strip_read I old (read_schedule (converted I) c.args.paper.now)) c.refusal-number.ensures c.if-number-ne0.false in record {
-      well_formed = c.requires;
-      more_value = e;
-      tasks_bound = fits b J _ e k.0;
-    }
+pub write_left-requires-clause-spellable : goal.write_left-requires-clause-spellable
+write_left-requires-clause-spellable c = (left-good c.in_ok-shape.ensures c.args.paper.now c.mark_into.new.schedule c.in_ok-mark_into.ensures c.requires refl).0
+
+pub write_left-requires-clause-all_on_time : goal.write_left-requires-clause-all_on_time
+write_left-requires-clause-all_on_time c = (left-good c.in_ok-shape.ensures c.args.paper.now c.mark_into.new.schedule c.in_ok-mark_into.ensures c.requires refl).1
 
 pub returns : goal.returns
 returns c =
-    let b = c.args.shape in
-    let J = job_of c.args.job.now in
-    let I = instance_from b J in
-    let old = c.args.out.now in
-    let k = is-converted b J _ c.added-more.ensures.value old (strip_read I old (read_schedule (converted I) c.args.paper.now)) c.refusal-number.ensures c.if-number-ne0.false in
-    c.strip_marked.ensures ∙ sym k.1
+    let I = instance_in c.args.job.now in
+    let x = c.in_ok-shape.ensures in
+    c.write_left.ensures ∙ left-made x c.args.paper.now c.mark_into.new.schedule c.in_ok-mark_into.ensures c.args.out.now refl ∙ sym (passes I x.convertible c.args.out.now _)

@@ -5,5 +5,6 @@ use Rattle.convert_text.proofs.strip.true_claim.Goals as goal
 
 pub returns : goal.returns
 returns c =
-    claim-by-changes c.args.shape (job_of c.args.job.now) (entries_of c.args.schedule.now) c.requires.well_formed c.requires.placed c.requires.all_on_time
+    let t = c.args.t.now in
+    claim-by-changes t.job.shape (job_of t.job.numbers.now) (entries_of t.schedule.now) c.requires.well_formed c.requires.placed c.requires.all_on_time
     c.walk_memories-found.ensures c.makespan.ensures.value

@@ -1,16 +1,18 @@
--- The digits before i spell v.
+-- The digits passed spell v.
 use Rattle.std.proofs.Common.{sym, ◌∙◌, arith}
+use Rattle.std.proofs.lemmas.Grind.{common_steps}
 use Rattle.framewatch.proofs.DecimalLaws.{reading-start, reading-more, reading-stop, reading-end}
 use Rattle.framewatch.proofs.number.number_of.Goals as goal
 
-pub loop-i-init : goal.loop-i-init
-loop-i-init c = reading-start _ (omega arith)
+pub loop-b-init : goal.loop-b-init
+loop-b-init c = reading-start _ (grind (arith, common_steps))
 
-pub returns-in_default : goal.returns-in_default
-returns-in_default c = reading-stop c.loop-i.invariant c.loop-i-test.true (sym c.with_digit.ensures ∙ c.in_default.is)
+pub returns-in_err-v : goal.returns-in_err-v
+returns-in_err-v c =
+    rw c.from_residual.ensures (reading-stop c.loop-b.invariant c.loop-b-test.true (sym c.with_digit.ensures ∙ c.in_err-v.was))
 
-pub loop-i-preserved : goal.loop-i-preserved
-loop-i-preserved c = reading-more c.loop-i.invariant c.loop-i-test.true _ (sym c.with_digit.ensures ∙ c.in-Is.is)
+pub loop-b-preserved : goal.loop-b-preserved
+loop-b-preserved c = reading-more c.loop-b.invariant c.loop-b-test.true _ (sym c.with_digit.ensures ∙ c.in_ok-v.was)
 
 pub returns : goal.returns
-returns c = reading-end c.loop-i.invariant c.loop-i-test.false
+returns c = reading-end c.loop-b.invariant c.loop-b-test.false

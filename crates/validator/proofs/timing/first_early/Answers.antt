@@ -1,16 +1,40 @@
-use mathlib.Core.Path.{sym, ◌∙◌}
+-- `first_early` meets its contract.
+use mathlib.Core.Path.{◌≡◌, sym, ◌∙◌}
 use native.Mathlib.Omega.{arith}
+use Rattle.model.specs.Jobs.{instance_in, schedule_in}
+use Rattle.model.specs.Layout.{job_of}
+use Rattle.model.proofs.LayoutLaws.{task-count, file-count}
 use Rattle.validator.proofs.LeastLaws.{least-none}
-use Rattle.validator.proofs.Loops.{early-turn, early-total}
+use Rattle.validator.proofs.Loops.{early-found, early-passed, early-total}
 use Rattle.validator.proofs.timing.first_early.Goals as goal
+use Rattle.validator.proofs.timing.first_early.Goals.{then-early_file, else-early_file}
 
-pub loop-i-init : goal.loop-i-init
-loop-i-init c = (omega arith, sym (least-none _ _ _))
+pub loop-k-init : goal.loop-k-init
+loop-k-init c = (omega arith, sym (least-none _ _ _))
 
-pub loop-i-preserved : goal.loop-i-preserved
-loop-i-preserved c =
-    let h = c.loop-i-test.true in
-    omega (arith, early-turn c.requires h c.args.shape.tasks c.early_file-is_early.ensures c.reader-reader.ensures.value c.select.ensures.value)
+pub loop-k-preserved : goal.loop-k-preserved
+loop-k-preserved c =
+    let t = c.args.t.now in
+    let I = instance_in t.job in
+    let tasks = task-count t.job.shape (job_of t.job.numbers.now) in
+    elim c.if-early_file.branch [
+      | then-early_file w ↦ (
+        omega arith,
+        w.first-is ∙ early-found I (schedule_in t) tasks c.loop-k.k c.loop-k.invariant.1 c.early_file.ensures w.if-early_file.true w.reader.ensures.value w.min-first.ensures,
+      )
+      | else-early_file w ↦ (omega arith, w.first-is ∙ early-passed I (schedule_in t) tasks c.loop-k.k c.loop-k.invariant.1 c.early_file.ensures w.if-early_file.false)
+    ]
 
-pub returns : goal.returns
-returns c = c.loop-i.invariant.1 ∙ early-total c.requires {n = c.loop-i.i} (omega arith)
+pub returns-then-first-tasks-clause-lowest : goal.returns-then-first-tasks-clause-lowest
+returns-then-first-tasks-clause-lowest c =
+    let t = c.args.t.now in
+    let J = job_of t.job.numbers.now in
+    early-total (instance_in t.job) (schedule_in t) (task-count t.job.shape J) c.loop-k.k (file-count t.job.shape J ∙ omega arith) c.loop-k.invariant.1
+
+pub returns-else-first-tasks-clause-lowest : goal.returns-else-first-tasks-clause-lowest
+returns-else-first-tasks-clause-lowest c =
+    let t = c.args.t.now in
+    let J = job_of t.job.numbers.now in
+    let e : t.job.shape.tasks ≡ c.loop-k.first = omega arith in
+    e ∙ early-total (instance_in t.job) (schedule_in t) (task-count t.job.shape J) c.loop-k.k (file-count t.job.shape J ∙ omega arith)
+    c.loop-k.invariant.1

@@ -1,7 +1,7 @@
 -- A planner by its name, as the rules have it.
 use Rattle.rules.specs.Scheduling as Rules
-use Rattle.console.specs.declared.planners.Planner.{Planner}
-use Rattle.console.specs.declared.planners.Planner.TheVariants.{MemHeft, MemMinMin, Heft, MinMin}
+use Rattle.frames.specs.declared.planners.Planner.{Planner}
+use Rattle.frames.specs.declared.planners.Planner.TheVariants.{MemHeft, MemMinMin, Heft, MinMin}
 
 abbrev pub as_planner : Planner → Rules.Planner
 as_planner MemHeft = Rules.mem_heft
