@@ -55,10 +55,6 @@ or-taken : (x : Chosen) (rest : Made) → is_chosen x ≡ true → or_rest x res
 or-taken nothing rest e = clash e refl
 or-taken (choose i c s) rest e = refl
 
-earlier-nothing : (I : Instance) (x : Chosen) → earlier I x nothing ≡ x
-earlier-nothing I nothing = refl
-earlier-nothing I (choose i c s) = refl
-
 module _ (m : Memory) (I : Instance) (Q : Partial) (i : ℕ) where
   first-ready : (is : List ℕ) → ready I Q.schedule i ≡ true → first_that_fits m I Q (i ∷ is) ≡ or_rest (both_colours m I Q i) (first_that_fits m I Q is)
   unfolding first_that_fits
@@ -133,23 +129,15 @@ module _ (m : Memory) (b : Shape) (J : Job) (L : Entries) (last : List ℕ) wher
   unfolding earliest_below
   below-trials = refl
 
-  below_next : (n : ℕ) → earliest_below m I Q (n + 1)
-      ≡ record {
-        choice = earlier I (earliest_below m I Q n).choice (first_that_fits m I Q (n ∷ [])).choice;
-        trials = (earliest_below m I Q n).trials + (first_that_fits m I Q (n ∷ [])).trials;
-      }
-  unfolding earliest_below
-  below_next n = split (ready I Q.schedule n)
-      (λ e. rw (add-one n, e, one-ready m I Q n e))
-      (λ e. rw (add-one n, e, one-waits m I Q n e, earlier-nothing I (earliest_below m I Q n).choice, add-zero (earliest_below m I Q n).trials))
+  module _ (n : ℕ) where
+    below-ready : ready I Q.schedule n ≡ true → earliest_below m I Q (n + 1)
+        ≡ record { choice = earlier I (earliest_below m I Q n).choice (both_colours m I Q n); trials = (earliest_below m I Q n).trials + 2 }
+    unfolding earliest_below
+    below-ready e = rw (add-one n, e)
 
-  module _ (n : ℕ) (one : Round) (e : as_round one ≡ first_that_fits m I Q (n ∷ [])) where
-    choice-turn : (old new : Option Trial) → as_choice old ≡ (earliest_below m I Q n).choice → as_choice new ≡ earlier I (as_choice old) (as_choice one.choice)
-        → as_choice new ≡ (earliest_below m I Q (n + 1)).choice
-    choice-turn old new p q = rw (below_next n, ← e) (q ∙ rw p)
-
-    trials-turn : (earliest_below m I Q (n + 1)).trials ≡ (earliest_below m I Q n).trials + one.trials
-    trials-turn = rw (below_next n, ← e)
+    below-waits : ready I Q.schedule n ≡ false → earliest_below m I Q (n + 1) ≡ earliest_below m I Q n
+    unfolding earliest_below
+    below-waits e = rw (add-one n, e)
 
   below_total : {n : ℕ} → n ≡ b.tasks → (a : Option Trial) {t : ℕ} → as_choice a ≡ (earliest_below m I Q n).choice → t ≡ (earliest_below m I Q n).trials
       → record { choice = as_choice a; trials = t } ≡ earliest_below m I Q (task_count I)
@@ -203,12 +191,27 @@ module _ (m : Memory) (b : Shape) (J : Job) (last : List ℕ) (table : Needs) (s
   pub passed_none : Passed None 0 0
   passed_none = record { chosen = λ L k. sym (below-choice m b J L last); tried = λ L k. sym (below-trials m b J L last) }
 
-  module _ {idle : ByColour ℕ} (starts : (K : Job) (L : Entries) → IdleOf (instance_from b K) (partial_from b L last) idle) where
-    pub passed-next : {i trials : ℕ} {old new : Option Trial} (one : Round) → Passed old trials i → TriedOne one i idle
-        → as_choice new ≡ earlier (instance_from b J) (as_choice old) (as_choice one.choice) → Passed new (trials + one.trials) (i + 1)
-    passed-next {i} {trials} {old} {new} one p o e = record {
-      chosen = λ L k. choice-turn m b J L last i one (o (partial_from b L last) k (starts J L)) old new (p.chosen L k) e;
-      tried = λ L k. omega (arith, p.tried L k, trials-turn m b J L last i one (o (partial_from b L last) k (starts J L)));
+  module _ {i trials : ℕ} {old : Option Trial} (p : Passed old trials i) (h : i < b.tasks) {x : Need} (r : x ≡ need_at table i) where
+    stands : (L : Entries) → KeptFor L → ready (instance_from b J) (partial_from b L last).schedule i ≡ x.ready
+    stands L k = is-ready k (omega (arith, task-count b J, h)) r
+
+    -- a ready task is tried on both colours
+    pub passed-ready : x.ready ≡ true → {idle : ByColour ℕ} → ((K : Job) (L : Entries) → IdleOf (instance_from b K) (partial_from b L last) idle)
+        → (found : Option Trial) {new : Option Trial}
+        → ((Q : Partial) → Kept (instance_from b J) Q table stairs → IdleOf (instance_from b J) Q idle → ready (instance_from b J) Q.schedule i ≡ true
+        → as_choice found ≡ both_colours m (instance_from b J) Q i)
+        → as_choice new ≡ earlier (instance_from b J) (as_choice old) (as_choice found) → Passed new (trials + 2) (i + 1)
+    passed-ready t starts found {new} o e = record {
+      chosen = λ L k.
+          let d = stands L k ∙ t in
+          rw (below-ready m b J L last i d, ← o (partial_from b L last) k (starts J L) d, ← p.chosen L k) e;
+      tried = λ L k. rw (below-ready m b J L last i (stands L k ∙ t), p.tried L k);
+    }
+
+    pub passed-waits : x.ready ≡ false → Passed old trials (i + 1)
+    passed-waits t = record {
+      chosen = λ L k. rw (below-waits m b J L last i (stands L k ∙ t)) (p.chosen L k);
+      tried = λ L k. rw (below-waits m b J L last i (stands L k ∙ t)) (p.tried L k);
     }
 
   pub passed-all : {i trials : ℕ} {choice : Option Trial} → Passed choice trials i → i ≡ b.tasks → (L : Entries) → KeptFor L

@@ -86,9 +86,11 @@ pub fn earliest_round(
     let mut choice = None;
     let mut trials: u64 = 0;
     for i in 0..job.shape.tasks {
-        let round = try_task(memory, job, needs, stairs, idle, i);
-        choice = earlier(job, choice, round.choice);
-        trials += round.trials;
+        if needs.of(i).ready {
+            let found = both_colours(memory, job, needs, stairs, idle, i);
+            choice = earlier(job, choice, found);
+            trials += 2;
+        }
     }
     Round { choice, trials }
 }
