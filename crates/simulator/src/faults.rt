@@ -23,7 +23,9 @@ fn overlapping_tasks(t: &Timetable, i: usize, j: usize) -> bool
     if i == j {
         return false;
     }
-    overlapping_runs(run_of(t, i), run_of(t, j))
+    let one = run_of(t, i);
+    let other = run_of(t, j);
+    overlapping_runs(one, other)
 }
 
 // Whether task j's run starts by the tick and overlaps task i's.
