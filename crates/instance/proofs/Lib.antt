@@ -10,3 +10,4 @@ pub mod ReadLaws
 pub mod AcceptedLaws
 -- the text by its lines
 pub mod TextLaws
+pub mod ShortLaws

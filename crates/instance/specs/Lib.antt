@@ -2,4 +2,3 @@
 pub mod Lines
 pub mod Steps
 pub mod Reads
-pub mod Sizes

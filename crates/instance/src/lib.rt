@@ -4,9 +4,7 @@
 mod build;
 mod line;
 mod sheet;
-mod size;
 mod writer;
 
 pub use sheet::read;
-pub use size::instance_size;
-pub use writer::write;
+pub use writer::{instance_size, write};

@@ -16,9 +16,8 @@ impl Timetable<'_> {
     {
         let mut sum = 0;
         for k in 0..self.job.shape.files {
-            let size = self.job.size(k);
             if self.hold_of(k, colour).covers(t) {
-                sum += size;
+                sum += self.job.size(k);
             }
         }
         sum
@@ -32,9 +31,8 @@ impl Timetable<'_> {
     {
         let mut sum = 0;
         for i in 0..self.job.shape.tasks {
-            let work = self.job.work(i);
             if self.work_hold(i, colour).covers(t) {
-                sum += work;
+                sum += self.job.work(i);
             }
         }
         sum

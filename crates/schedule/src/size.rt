@@ -1,4 +1,5 @@
-// How many bytes a timetable takes.
+// How many bytes a timetable takes. A count of its own, beside the writer: no range is known of the numbers of a schedule, so that the bound
+// on the sum comes from the numbers as they are read.
 ghost use Rattle.std.specs.Prelude.{◌≡◌, ◌++◌, ◌*◌, ◌≤◌, length};
 ghost use Rattle.rules.specs.Limits.{max_tasks, max_files};
 ghost use Rattle.rules.specs.Text.{lf};

@@ -16,3 +16,4 @@ pub mod FillLaws
 -- many lines: their length and their bytes
 pub mod SizeLaws
 pub mod LaidLaws
+pub mod SinkLaws

@@ -1,5 +1,5 @@
 -- How long a line is, and the loops that add up the lengths of pieces.
-use Prim.Native.Nat.{ℕ, suc, ◌+◌, ◌*◌, ◌^◌, ◌≤◌, ◌<◌}
+use Prim.Native.Nat.{ℕ, zero, suc, ◌+◌, ◌*◌, ◌^◌, ◌≤◌, ◌<◌}
 use mathlib.Core.Path.{◌≡◌, sym, ap, ◌∙◌}
 use mathlib.Core.List.{List, [], ◌∷◌, ◌++◌}
 use native.Mathlib.Nat.{mul-suc}
@@ -71,3 +71,11 @@ module _ (f g : ℕ → List ℕ) (grow : (i : ℕ) → f (suc i) ≡ f i ++ g i
 -- ---- three pieces, one behind the other: r, m and l bytes
 pub three-length : (a b c : List ℕ) {r m l : ℕ} → r ≡ length a → m ≡ length b → l ≡ length c → r + m + l ≡ length ((a ++ b) ++ c)
 three-length a b c p q s = omega (arith, length-append (a ++ b) c, length-append a b)
+
+-- ---- pieces of at most `most` bytes each
+pub pieces-short : (most : ℕ) (f g : ℕ → List ℕ) → ((i : ℕ) → f (suc i) ≡ f i ++ g i) → f 0 ≡ [] → (n : ℕ) → ((i : ℕ) → i < n → length (g i) ≤ most)
+    → length (f n) ≤ most * n
+pieces-short most f g grow none zero h = omega (arith, ap length none)
+pieces-short most f g grow none (suc n) h =
+    let ih = pieces-short most f g grow none n (λ i l. h i (omega arith)) in
+    rw (mul-suc most n) (omega (arith, ap length (grow n), length-append (f n) (g n), ih, h n (omega arith)))

@@ -3,4 +3,5 @@ pub mod FirstLine
 pub mod Numerals
 pub mod Cut
 pub mod Due
+pub mod Laid
 pub mod Wrote

@@ -4,7 +4,9 @@
 mod forms;
 mod lines;
 mod numerals;
+mod sinks;
 
 pub use forms::{Found, form_size, line_by, line_size, write_form, write_line};
 pub use lines::{Taken, line_at};
 pub use numerals::{number_size, write_number};
+pub use sinks::{Count, Page, Sink};
