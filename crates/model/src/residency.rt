@@ -1,14 +1,9 @@
 // When a memory holds a file, or a task's working memory: document 01's hold rule with Orders 1 and 6, for partial schedules too.
-ghost use Rattle.std.specs.Prelude.{◌≡◌, ◌<◌, ◌≤◌, ℕ};
-ghost use Rattle.rules.specs.Model.{finish_at};
+ghost use Rattle.std.specs.Prelude.{◌≡◌, ◌≤◌, ℕ};
 ghost use Rattle.rules.specs.Residency.{covers as rules-covers, open_hold};
-ghost use Rattle.model.specs.Layout.{instance_of, schedule_of, InBounds, last_tick};
-ghost use Rattle.model.specs.Holds.{as_hold, Within, closed_by, TimesOf, TimesWithin};
+ghost use Rattle.model.specs.Holds.{as_hold, Within, closed_by, TimesWithin};
 
 use super::colour::Colour;
-use super::job::Job;
-use super::layout;
-use super::layout::Shape;
 use super::timetable::Timetable;
 
 // The move of a file: its start and its end.
@@ -175,46 +170,4 @@ impl Timetable<'_> {
         let released = self.release(i);
         Hold::During(begun, released)
     }
-}
-
-pub fn finish<'a>(
-    shape: Shape,
-    job: &'a layout::Numbers,
-    schedule: &'a layout::Schedule,
-    i: usize,
-) -> u64
-    requires in_bounds { InBounds shape job.now schedule.now }
-    requires i_lt_tasks { i < shape.tasks }
-    ensures value { result ≡ finish_at (instance_of shape job.now) (schedule_of shape schedule.now) i }
-    ensures upper_bound { result ≤ last_tick }
-{
-    let whole = Timetable {
-        job: Job {
-            shape,
-            numbers: job,
-        },
-        schedule,
-    };
-    whole.finish(i)
-}
-
-pub fn file_times<'a>(
-    shape: Shape,
-    job: &'a layout::Numbers,
-    schedule: &'a layout::Schedule,
-    k: usize,
-) -> FileTimes
-    requires in_bounds { InBounds shape job.now schedule.now }
-    requires k_lt_files { k < shape.files }
-    ensures times_of { TimesOf (instance_of shape job.now) (schedule_of shape schedule.now) k result }
-    ensures times_within { TimesWithin last_tick result }
-{
-    let whole = Timetable {
-        job: Job {
-            shape,
-            numbers: job,
-        },
-        schedule,
-    };
-    whole.file_times(k)
 }
