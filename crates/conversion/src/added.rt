@@ -8,7 +8,7 @@ ghost use Rattle.conversion.specs.Widened.{widened as widened-shape};
 use model::layout;
 use model::layout::Shape;
 
-// How many tasks have W: document 02's m.
+// How many tasks have W: document 02's m. It takes no `Job`, since it asks for no more than the number of tasks.
 pub fn added(shape: Shape, job: &layout::Numbers) -> usize
     requires { shape.tasks ≤ max_tasks }
     ensures value { result ≡ added_count (instance_of shape job.now) }

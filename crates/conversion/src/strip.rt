@@ -34,7 +34,7 @@ fn strip_moves(shape: Shape, added: usize, from: &layout::Schedule, to: &mut lay
     }
 }
 
-// Writes what is left of the schedule, whatever the second array held.
+// Writes what is left of the schedule, whatever the second one held. It takes no `Job`: the counts are all that it reads of the instance.
 pub fn strip(shape: Shape, added: usize, from: &layout::Schedule, to: &mut layout::Schedule)
     requires { (added + shape.tasks ≤ max_tasks) × (added + shape.files ≤ max_files) }
     ensures { (I : Instance) → added_count I ≡ added →

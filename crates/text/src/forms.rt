@@ -77,7 +77,7 @@ fn value_at(values: &[u64], k: usize) -> u64
     values.get(k).copied().unwrap_or(0)
 }
 
-// How many bytes a form takes with its numbers.
+// How many bytes a form takes with its numbers. A walk of its own, beside `write_form`: nothing is lent to write into, and no room is asked.
 pub fn form_size(form: &[u8], values: &[u64]) -> usize
     requires { length (fill form.now values.now) < 2 ^ 64 }
     ensures { result ≡ length (fill form.now values.now) }

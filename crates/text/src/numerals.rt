@@ -49,6 +49,7 @@ pub fn number_size(value: u64) -> usize
 {
     let mut n = 1;
     let mut v = value;
+    // no range: the number falls by its last digit
     while 10 <= v {
         v /= 10;
         n += 1;
