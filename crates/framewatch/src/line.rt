@@ -34,13 +34,10 @@ impl Line {
         ensures { result.used ≡ self.used + length text.now }
     {
         let mut line = self;
-        let mut i = 0;
-        while i < text.len() {
-            let at = line.used;
-            line.bytes[at] = text[i];
-            line.used = at + 1;
-            i += 1;
-        }
+        let at = line.used;
+        let end = at + text.len();
+        line.bytes[at..end].copy_from_slice(text);
+        line.used = end;
         line
     }
 

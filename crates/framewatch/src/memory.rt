@@ -1,46 +1,37 @@
 // The files that a memory holds: their total, the limit and each of them.
 ghost use Rattle.std.specs.Prelude.{◌≡◌, ◌+◌, ◌<◌, ◌≤◌, get_or};
-ghost use Rattle.rules.specs.Limits.{max_tasks, file_sizes, memory_limits};
+ghost use Rattle.rules.specs.Limits.{max_tasks, file_sizes};
+ghost use Rattle.rules.specs.Model.{size_at};
 ghost use Rattle.rules.specs.Count.{sum_where};
 ghost use Rattle.rules.specs.SimulationPromises.{is_in};
 ghost use Rattle.model.specs.Colours.{as_colour};
-ghost use Rattle.model.specs.Layout.{JobInBounds, job_of, most_files};
+ghost use Rattle.model.specs.Jobs.{instance_in};
+ghost use Rattle.model.specs.Layout.{most_files};
 ghost use Rattle.framewatch.specs.Columns.{width, row_column, limit_columns, file_columns};
 
 use crate::line::Line;
-use model::choice::{greater, value_if};
 use model::colour::{Colour, by_colour};
-use model::layout;
-use model::layout::Shape;
+use model::job::Job;
 use rules::Board;
 
 // Whether the memory of the colour holds a file, by where it is held: 1 in blue, 2 in red, 3 in both.
 fn holds(colour: Colour, held: u64) -> bool
     ensures { result ≡ is_in (as_colour colour) held }
 {
-    if held == 3 {
-        return true;
-    }
-    held == by_colour(colour, 1, 2)
+    held == 3 || held == by_colour(colour, 1, 2)
 }
 
 // The sizes together of the files that the memory of the colour holds.
-fn total<'a>(
-    shape: Shape,
-    job: &'a layout::Numbers,
-    contents: &'a [u64; Board::MAX_FILES],
-    colour: Colour,
-) -> u64
-    requires { JobInBounds shape job.now }
+fn total(job: &Job, contents: &[u64; Board::MAX_FILES], colour: Colour) -> u64
     ensures value { result ≡
-        sum_where shape.files (λ k. is_in (as_colour colour) (get_or contents.now k 0)) (job_of job.now).size }
+        sum_where job.now.shape.files (λ k. is_in (as_colour colour) (get_or contents.now k 0)) (size_at (instance_in job.now)) }
     ensures upper_bound { result ≤ most_files }
 {
-    let mut sum: u64 = 0;
-    let mut k: usize = 0;
-    while k < shape.files {
-        sum += value_if(holds(colour, contents[k]), layout::size(job, k));
-        k += 1;
+    let mut sum = 0;
+    for k in 0..job.shape.files {
+        if holds(colour, contents[k]) {
+            sum += job.size(k);
+        }
     }
     sum
 }
@@ -65,23 +56,21 @@ fn file(maker: u64, reader: u64, size: u64, moving: bool) -> Line
 fn with_file(
     rt: &impl Print,
     line: Line,
-    shape: Shape,
-    job: &layout::Numbers,
+    job: &Job,
     colour: Colour,
     k: usize,
     held: u64,
     hang: usize,
 ) -> Line
     requires used_le_width { line.used ≤ width }
-    requires job_in_bounds { JobInBounds shape job.now }
-    requires k_lt_files { k < shape.files }
+    requires k_lt_files { k < job.now.shape.files }
     requires file_columns_bound { hang + file_columns ≤ width }
     ensures { result.used ≤ width }
 {
     if holds(colour, held) {
-        let maker = layout::maker(shape, job, k) + 1;
-        let reader = layout::reader(shape, job, k) + 1;
-        let shown = file(maker, reader, layout::size(job, k), held == 3);
+        let maker = job.maker(k) as u64 + 1;
+        let reader = job.reader(k) as u64 + 1;
+        let shown = file(maker, reader, job.size(k), held == 3);
         let column = line.used + 3;
         return line.item(rt, shown, column, hang);
     }
@@ -89,57 +78,54 @@ fn with_file(
 }
 
 // The files that the memory of the colour holds.
-fn files<'a>(
+fn files(
     rt: &impl Print,
     line: Line,
-    shape: Shape,
-    job: &'a layout::Numbers,
-    contents: &'a [u64; Board::MAX_FILES],
+    job: &Job,
+    contents: &[u64; Board::MAX_FILES],
     colour: Colour,
     hang: usize,
 ) -> Line
     requires used_le_width { line.used ≤ width }
-    requires job_in_bounds { JobInBounds shape job.now }
     requires file_columns_bound { hang + file_columns ≤ width }
     ensures { result.used ≤ width }
 {
     let mut row = line;
-    let mut k: usize = 0;
-    while k < shape.files {
-        row = with_file(rt, row, shape, job, colour, k, contents[k], hang);
-        k += 1;
+    for k in 0..job.shape.files {
+        row = with_file(rt, row, job, colour, k, contents[k], hang);
     }
     row
 }
 
 // The columns that the greater limit of the board takes.
-fn limit_columns(shape: Shape) -> usize
-    requires { (shape.board.blue.limit ≤ memory_limits.most) × (shape.board.red.limit ≤ memory_limits.most) }
+fn limit_columns(job: &Job) -> usize
     ensures { result ≤ limit_columns }
 {
-    text::number_size(greater(shape.board.blue.limit, shape.board.red.limit))
+    text::number_size(job.shape.board.blue.limit.max(job.shape.board.red.limit))
 }
 
 // The line with the files that the memory of the colour holds behind it: their total and the limit, aligned from colour to colour, and each file.
-pub fn show<'a>(
+pub fn show(
     rt: &impl Print,
     line: Line,
-    shape: Shape,
-    job: &'a layout::Numbers,
-    contents: &'a [u64; Board::MAX_FILES],
+    job: &Job,
+    contents: &[u64; Board::MAX_FILES],
     colour: Colour,
 ) -> Line
-    requires used_le_row_column { line.used ≤ row_column }
-    requires job_in_bounds { JobInBounds shape job.now }
+    requires { line.used ≤ row_column }
     ensures { result.used ≤ width }
 {
-    let columns = limit_columns(shape);
-    let held = total(shape, job, contents, colour);
-    let limit = by_colour(colour, shape.board.blue.limit, shape.board.red.limit);
+    let columns = limit_columns(job);
+    let held = total(job, contents, colour);
+    let limit = by_colour(
+        colour,
+        job.shape.board.blue.limit,
+        job.shape.board.red.limit,
+    );
     let row = line
         .right(held, columns)
         .text(b" of ")
         .right(limit, columns);
     let hang = row.used + 3;
-    files(rt, row, shape, job, contents, colour, hang)
+    files(rt, row, job, contents, colour, hang)
 }

@@ -1,15 +1,13 @@
 // One step: its number and tick, and what each colour's processors run and its memory holds.
 ghost use Rattle.std.specs.Prelude.{◌≡◌, ◌+◌, ◌*◌, ◌≤◌};
 ghost use Rattle.rules.specs.Limits.{all_processors};
-ghost use Rattle.model.specs.Layout.{JobInBounds};
 ghost use Rattle.framewatch.specs.Columns.{width, most_digits, row_column};
 
 use crate::line::Line;
 use crate::memory;
 use frames::Simulation;
 use model::colour::{Colour, by_colour};
-use model::layout;
-use model::layout::Shape;
+use model::job::Job;
 use rules::Board;
 
 // The column at which processors and totals stand, and the columns of a processor.
@@ -41,11 +39,9 @@ fn processors(
     ensures { result.used ≤ width }
 {
     let mut row = line;
-    let mut p: usize = 0;
-    while p < count {
+    for p in 0..count {
         let cell = processor((before + p + 1) as u64, running[before + p]);
         row = row.item(rt, cell, ROW + CELL * (p % 4), ROW);
-        p += 1;
     }
     row
 }
@@ -62,38 +58,23 @@ fn label(line: Line, colour: Colour) -> Line
 }
 
 // One colour: what its processors run and what its memory holds.
-fn side(
-    rt: &impl Print,
-    line: Line,
-    shape: Shape,
-    job: &layout::Numbers,
-    state: Simulation,
-    colour: Colour,
-) -> Line
-    requires used_value { line.used ≡ 0 }
-    requires job_in_bounds { JobInBounds shape job.now }
+fn side(rt: &impl Print, line: Line, job: &Job, state: Simulation, colour: Colour) -> Line
+    requires { line.used ≡ 0 }
     ensures { result.used ≡ 0 }
 {
     let running = state.running;
     let contents = state.contents;
-    let blue = shape.board.blue.processors;
+    let blue = job.shape.board.blue.processors;
     let before = by_colour(colour, 0, blue) as usize;
-    let count = by_colour(colour, blue, shape.board.red.processors) as usize;
+    let count = by_colour(colour, blue, job.shape.board.red.processors) as usize;
     let runs = processors(rt, label(line, colour), &running, before, count).end(rt);
     let row = runs.text(b"        memory     ");
-    memory::show(rt, row, shape, job, &contents, colour).end(rt)
+    memory::show(rt, row, job, &contents, colour).end(rt)
 }
 
 // A step: its number and tick, and what each colour does.
-pub fn show(
-    rt: &impl Print,
-    line: Line,
-    shape: Shape,
-    job: &layout::Numbers,
-    state: Simulation,
-) -> Line
-    requires used_value { line.used ≡ 0 }
-    requires job_in_bounds { JobInBounds shape job.now }
+pub fn show(rt: &impl Print, line: Line, job: &Job, state: Simulation) -> Line
+    requires { line.used ≡ 0 }
     ensures { result.used ≡ 0 }
 {
     let head = line
@@ -102,6 +83,6 @@ pub fn show(
         .text(b", tick ")
         .number(state.time)
         .end(rt);
-    let blue = side(rt, head, shape, job, state, Colour::Blue);
-    side(rt, blue, shape, job, state, Colour::Red)
+    let blue = side(rt, head, job, state, Colour::Blue);
+    side(rt, blue, job, state, Colour::Red)
 }

@@ -1,51 +1,44 @@
 // The trace of a timetable: a heading, the steps, and how it ends.
 ghost use Rattle.std.specs.Prelude.{◌≡◌, ◌≤◌, ltb};
 ghost use Rattle.rules.specs.Count.{any_below};
-ghost use Rattle.rules.specs.Limits.{max_tasks, max_files};
-ghost use Rattle.model.specs.Layout.{JobInBounds, job_of};
+ghost use Rattle.rules.specs.Model.{work_at};
+ghost use Rattle.model.specs.Jobs.{instance_in};
 
 use crate::line::Line;
 use crate::step;
 use console::print_marks;
 use frames::{Progress, Simulation, TickFault};
-use model::layout;
-use model::layout::Shape;
+use model::job::Job;
+use model::layout::Numbers;
 use std::io::Result;
 
 // The counts of the job, and how memory and files are shown. Fails where it cannot be written.
-fn print_heading(rt: &impl Print, shape: Shape) -> Result<()>
-    requires { (shape.tasks ≤ max_tasks) × (shape.files ≤ max_files) }
-{
+fn print_heading(rt: &impl Print, job: &Job) -> Result<()> {
     Line::new()
         .text(b"tasks: ")
-        .number(shape.tasks as u64)
+        .number(job.shape.tasks as u64)
         .text(b", files: ")
-        .number(shape.files as u64)
+        .number(job.shape.files as u64)
         .text(b"; memory in blocks, each file as (maker reader) size")
         .end(rt)
         .ok
 }
 
 // Whether a task has working memory.
-fn has_work(shape: Shape, job: &layout::Numbers) -> bool
-    requires { JobInBounds shape job.now }
-    ensures { result ≡ any_below shape.tasks (λ i. ltb 0 ((job_of job.now).work i)) }
+fn has_work(job: &Job) -> bool
+    ensures { result ≡ any_below job.now.shape.tasks (λ i. ltb 0 (work_at (instance_in job.now) i)) }
 {
-    let mut i: usize = 0;
-    while i < shape.tasks {
-        if 0 < layout::work(job, i) {
+    for i in 0..job.shape.tasks {
+        if 0 < job.work(i) {
             return true;
         }
-        i += 1;
     }
     false
 }
 
 // That working memory is not shown, if a task has it. Fails where it cannot be written.
-fn print_note(rt: &impl Print, shape: Shape, job: &layout::Numbers) -> Result<()>
-    requires { JobInBounds shape job.now }
-{
-    if has_work(shape, job) {
+fn print_note(rt: &impl Print, job: &Job) -> Result<()> {
+    if has_work(job) {
         return Line::new()
             .text(b"working memory is not shown, but it counts for the limits")
             .end(rt)
@@ -86,28 +79,22 @@ fn print_end(rt: &impl Print, progress: Progress, made: u64) -> Result<()> {
 }
 
 // A blank line and a step. Fails where that cannot be written.
-fn print_step(rt: &impl Print, shape: Shape, job: &layout::Numbers, state: Simulation) -> Result<()>
-    requires { JobInBounds shape job.now }
-{
-    step::show(rt, Line::new().end(rt), shape, job, state).ok
+fn print_step(rt: &impl Print, job: &Job, state: Simulation) -> Result<()> {
+    step::show(rt, Line::new().end(rt), job, state).ok
 }
 
 // So many steps behind those of `first`, as far as there are any, and how it ends then. Fails where that cannot be written.
-fn print_steps<'a>(
+fn print_steps(
     rt: &impl Print,
-    sheet: &'a [u8],
-    paper: &'a [u8],
-    shape: Shape,
-    job: &'a layout::Numbers,
+    sheet: &[u8],
+    paper: &[u8],
+    job: &Job,
     first: Simulation,
     steps: u64,
-) -> Result<()>
-    requires { JobInBounds shape job.now }
-{
+) -> Result<()> {
     let mut made = first.made;
     let mut progress = first.progress;
-    let mut shown: u64 = 0;
-    while shown < steps {
+    for _ in 0..steps {
         let Ok(next) = frames::simulate(sheet, paper, made, 1) else {
             return Line::new().end(rt).ok;
         };
@@ -115,44 +102,38 @@ fn print_steps<'a>(
         if next.made <= made {
             return print_end(rt, progress, made);
         }
-        print_step(rt, shape, job, next)?;
+        print_step(rt, job, next)?;
         made = next.made;
-        shown += 1;
     }
     print_end(rt, progress, made)
 }
 
 // The heading, and so many steps behind those of `first`. Fails where that cannot be written.
-fn print_trace<'a>(
+fn print_trace(
     rt: &impl Print,
-    sheet: &'a [u8],
-    paper: &'a [u8],
-    shape: Shape,
-    job: &'a layout::Numbers,
+    sheet: &[u8],
+    paper: &[u8],
+    job: &Job,
     first: Simulation,
     steps: u64,
-) -> Result<()>
-    requires { JobInBounds shape job.now }
-{
-    print_heading(rt, shape)?;
-    print_note(rt, shape, job)?;
-    print_steps(rt, sheet, paper, shape, job, first, steps)
+) -> Result<()> {
+    print_heading(rt, job)?;
+    print_note(rt, job)?;
+    print_steps(rt, sheet, paper, job, first, steps)
 }
 
 // Shows so many steps of a timetable behind those made, or the refusal of a text. Fails where that cannot be written.
-pub fn show<'a>(
-    rt: &impl Print,
-    sheet: &'a [u8],
-    paper: &'a [u8],
-    made: u64,
-    steps: u64,
-) -> Result<()> {
-    let mut job = layout::Numbers::new();
-    let Ok(shape) = instance::read(sheet, &mut job) else {
+pub fn show(rt: &impl Print, sheet: &[u8], paper: &[u8], made: u64, steps: u64) -> Result<()> {
+    let mut numbers = Numbers::new();
+    let Ok(shape) = instance::read(sheet, &mut numbers) else {
         return print_marks(rt, sheet, paper);
     };
     let Ok(first) = frames::simulate(sheet, paper, made, 0) else {
         return print_marks(rt, sheet, paper);
     };
-    print_trace(rt, sheet, paper, shape, &job, first, steps)
+    let job = Job {
+        shape,
+        numbers: &numbers,
+    };
+    print_trace(rt, sheet, paper, &job, first, steps)
 }

@@ -1,10 +1,7 @@
 -- No item passes the last column.
-use Rattle.std.proofs.Common.{◌-◌, ◌≤◌}
+use Rattle.std.proofs.Common.{◌≤◌}
 use Rattle.framewatch.specs.Columns.{width}
 use Rattle.framewatch.proofs.memory.files.Given as goal
 
 abbrev pub invariant-loop-k : goal.invariant-loop-k
-invariant-loop-k g l = (l.k ≤ l.shape.files) × (l.row.used ≤ width)
-
-abbrev pub decreases-loop-k : goal.decreases-loop-k
-decreases-loop-k g l = l.shape.files - l.k
+invariant-loop-k g l = l.row.used ≤ width

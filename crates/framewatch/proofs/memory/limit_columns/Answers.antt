@@ -5,4 +5,4 @@ use Rattle.framewatch.specs.Columns.{limit_columns}
 use Rattle.framewatch.proofs.memory.limit_columns.Goals as goal
 
 pub returns : goal.returns
-returns c = omega (arith, decimal-long c.greater.result limit_columns (omega arith) (omega arith))
+returns c = omega (arith, decimal-long c.max.result limit_columns (omega arith) (omega arith))

@@ -1,10 +1,7 @@
 -- No item passes the last column.
-use Rattle.std.proofs.Common.{◌-◌, ◌≤◌}
+use Rattle.std.proofs.Common.{◌≤◌}
 use Rattle.framewatch.specs.Columns.{width}
 use Rattle.framewatch.proofs.step.processors.Given as goal
 
 abbrev pub invariant-loop-p : goal.invariant-loop-p
-invariant-loop-p g l = (l.p ≤ l.count) × (l.row.used ≤ width)
-
-abbrev pub decreases-loop-p : goal.decreases-loop-p
-decreases-loop-p g l = l.count - l.p
+invariant-loop-p g l = l.row.used ≤ width
