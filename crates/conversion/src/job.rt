@@ -72,8 +72,8 @@ fn convert_file(job: &Job<'_>, added: usize, k: usize, target: &mut layout::Numb
     ensures { Stored (instance_in job.now) target.new (added + job.now.shape.tasks) (added + k + 1) }
 {
     let shift = added as u64;
-    let maker = layout::maker(job.shape, job.numbers, k);
-    let reader = layout::reader(job.shape, job.numbers, k);
+    let maker = job.maker(k) as u64;
+    let reader = job.reader(k) as u64;
     let size = layout::size(job.numbers, k);
     let time = layout::move_time(job.numbers, k);
     layout::set_file(target, added + k, shift + maker, shift + reader, size, time);

@@ -129,26 +129,6 @@ pub fn stored_reader(job: &Numbers, k: usize) -> u64
     job.files[k].reader
 }
 
-// The maker of file k of an instance in its bounds: the task exists.
-pub fn maker(shape: Shape, job: &Numbers, k: usize) -> u64
-    requires job_in_bounds { JobInBounds shape job.now }
-    requires k_lt_files { k < shape.files }
-    ensures value { result ≡ (job_of job.now).maker k }
-    ensures upper_bound { result < shape.tasks }
-{
-    stored_maker(job, k)
-}
-
-// The reader of file k, likewise.
-pub fn reader(shape: Shape, job: &Numbers, k: usize) -> u64
-    requires job_in_bounds { JobInBounds shape job.now }
-    requires k_lt_files { k < shape.files }
-    ensures value { result ≡ (job_of job.now).reader k }
-    ensures upper_bound { result < shape.tasks }
-{
-    stored_reader(job, k)
-}
-
 pub fn size(job: &Numbers, k: usize) -> u64
     requires { k < max_files }
     ensures { result ≡ (job_of job.now).size k }

@@ -1,7 +1,6 @@
 // The instance and the schedule as arrays of numbers; the two colours, and what a file costs between them; what the memories hold; the makespan.
 #![tactic(auto)]
 
-pub mod choice;
 pub mod claim;
 pub mod colour;
 pub mod crossing;

@@ -1,9 +1,0 @@
--- `reader` meets its contract.
-use native.Mathlib.Omega.{arith}
-use Rattle.model.proofs.layout.reader.Goals as goal
-
-pub returns : goal.returns
-returns c = record {
-  value = c.stored_reader.ensures;
-  upper_bound = omega (arith, c.requires.job_in_bounds.reader c.args.k c.requires.k_lt_files);
-}
