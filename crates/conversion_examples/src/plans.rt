@@ -19,12 +19,7 @@ fn show_planner<'a>(
     print_text(rt, answer.written, &out)?;
     print_text_mark(rt, wide, answer.written, &out)?;
     if answer.written.is_ok() {
-        stripped(
-            rt,
-            b"stripped",
-            sheet,
-            written_text(answer.written, &out),
-        )?;
+        stripped(rt, b"stripped", sheet, written_text(answer.written, &out))?;
     }
     Ok(())
 }

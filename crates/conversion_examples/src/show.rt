@@ -1,17 +1,17 @@
 // What the examples print of an answer.
 use console::{convert, print_text_mark, strip, written_text};
 use frames::{Refusal, numbers_of};
-use std::io;
+use std::io::Result as IoResult;
 
 // What is shown, and number and place.
-pub fn numbers(rt: &impl Print, what: &[u8], written: Result<usize, Refusal>) -> io::Result<()> {
+pub fn numbers(rt: &impl Print, what: &[u8], written: Result<usize, Refusal>) -> IoResult<()> {
     let [number, place] = numbers_of(written);
     rt.write_all(what)?;
     println!(rt; ": {number} {place}")
 }
 
 // The converter on a sheet: number, place and what was written.
-pub fn converted<'a>(rt: &impl Print, what: &'a [u8], sheet: &'a [u8]) -> io::Result<()> {
+pub fn converted<'a>(rt: &impl Print, what: &'a [u8], sheet: &'a [u8]) -> IoResult<()> {
     let mut out = io::large_buffer();
     let written = convert(sheet, &mut out);
     numbers(rt, what, written)?;
@@ -24,7 +24,7 @@ pub fn stripped<'a>(
     what: &'a [u8],
     sheet: &'a [u8],
     paper: &'a [u8],
-) -> io::Result<()> {
+) -> IoResult<()> {
     let mut out = io::large_buffer();
     let written = strip(sheet, paper, &mut out);
     numbers(rt, what, written)?;
