@@ -17,11 +17,7 @@ use rules::Refusal;
 use validator::judgement::judge;
 
 // Marks a timetable on the job of an accepted board sheet, and leaves in the schedule what was read of it.
-pub fn mark_into(
-    job: &Job,
-    paper: &[u8],
-    schedule: &mut layout::Schedule,
-) -> Result<Claim, Refusal>
+pub fn mark_into(job: &Job, paper: &[u8], schedule: &mut layout::Schedule) -> Result<Claim, Refusal>
     requires { WellFormed (instance_in job.now) }
     ensures { Marked (instance_in job.now) paper.now (schedule_of job.now.shape schedule.new) (as_verdict result) }
 {
