@@ -16,8 +16,9 @@ impl Timetable<'_> {
     {
         let mut sum = 0;
         for k in 0..self.job.shape.files {
+            let size = self.job.size(k);
             if self.hold_of(k, colour).covers(t) {
-                sum += self.job.size(k);
+                sum += size;
             }
         }
         sum
@@ -31,8 +32,9 @@ impl Timetable<'_> {
     {
         let mut sum = 0;
         for i in 0..self.job.shape.tasks {
+            let work = self.job.work(i);
             if self.work_hold(i, colour).covers(t) {
-                sum += self.job.work(i);
+                sum += work;
             }
         }
         sum

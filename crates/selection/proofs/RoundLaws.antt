@@ -10,7 +10,7 @@ use lib.ListN.{length, get_or, drop, drop_of_length-le}
 use lib.Seq.{drop-cons}
 use Rattle.rules.specs.Model.{Instance, task_count}
 use Rattle.rules.specs.Scheduling.{Memory, Partial, ready, Choice as Chosen, nothing, choose, earlier, both_colours, Round as Made, or_rest, first_that_fits, earliest_below}
-use Rattle.rules.proofs.Tests.{split, clash}
+use Rattle.rules.proofs.Tests.{clash}
 use Rattle.model.specs.declared.layout.Shape.{Shape}
 use Rattle.model.specs.Layout.{Job, Entries, instance_from, partial_from}
 use Rattle.model.proofs.LayoutLaws.{task-count}
@@ -18,12 +18,11 @@ use Rattle.needs.specs.declared.table.Need.{Need}
 use Rattle.needs.specs.declared.table.Needs.{Needs}
 use Rattle.needs.specs.Tables.{need_at}
 use Rattle.starts.specs.Kept.{Kept}
-use Rattle.selection.specs.declared.round.Round.{Round}
 use Rattle.std.specs.Prelude.{Option, None, Some, is_some}
 use Rattle.rules.specs.Staircase.{Step}
 use Rattle.model.specs.declared.colour.ByColour.{ByColour}
 use Rattle.model.specs.declared.trial.Trial.{Trial}
-use Rattle.selection.specs.Choices.{as_choice, as_round, is_chosen, IdleOf}
+use Rattle.selection.specs.Choices.{as_choice, is_chosen, IdleOf}
 
 -- whether there is a choice
 some_chosen : (o : Option Trial) → is_some o ≡ is_chosen (as_choice o)
@@ -43,10 +42,6 @@ after_none r = rw (zero-add r.trials)
 after-after : (k n : ℕ) (r : Made) → after k (after n r) ≡ after (k + n) r
 after-after k n r = rw (add_assoc k n r.trials)
 
-or_nothing : (x : Chosen) → record { choice = x; trials = 2 } ≡ or_rest x (record { choice = nothing; trials = 0 })
-or_nothing nothing = refl
-or_nothing (choose i c s) = refl
-
 or-passed : (x : Chosen) (rest : Made) → is_chosen x ≡ false → or_rest x rest ≡ after 2 rest
 or-passed nothing rest e = refl
 or-passed (choose i c s) rest e = clash refl e
@@ -64,53 +59,12 @@ module _ (m : Memory) (I : Instance) (Q : Partial) (i : ℕ) where
   unfolding first_that_fits
   first-waits is e = rw e
 
-  -- ---- one task alone
-
-  one-ready : ready I Q.schedule i ≡ true → first_that_fits m I Q (i ∷ []) ≡ record { choice = both_colours m I Q i; trials = 2 }
-  unfolding first_that_fits
-  one-ready e = first-ready [] e ∙ sym (or_nothing (both_colours m I Q i))
-
-  one-waits : ready I Q.schedule i ≡ false → first_that_fits m I Q (i ∷ []) ≡ record { choice = nothing; trials = 0 }
-  unfolding first_that_fits
-  one-waits e = first-waits [] e
-
-  -- ---- before others
-
-  module _ (is : List ℕ) {x : Chosen} {t : ℕ} (one : record { choice = x; trials = t } ≡ first_that_fits m I Q (i ∷ [])) where
-    passed-by : is_chosen x ≡ false → first_that_fits m I Q (i ∷ is) ≡ after t (first_that_fits m I Q is)
-    passed-by n = split (ready I Q.schedule i)
-        (λ e.
-        let o = one ∙ one-ready e in
-        let p : x ≡ both_colours m I Q i = ap (λ r. r.choice) o in
-        let q : t ≡ 2 = ap (λ r. r.trials) o in
-        rw (first-ready is e, q) (or-passed (both_colours m I Q i) (first_that_fits m I Q is) (rw p at n)))
-        (λ e.
-        let q : t ≡ 0 = ap (λ r. r.trials) (one ∙ one-waits e) in
-        rw (first-waits is e, q) (sym (after_none (first_that_fits m I Q is))))
-
-    taken : is_chosen x ≡ true → first_that_fits m I Q (i ∷ is) ≡ record { choice = x; trials = t }
-    taken n = split (ready I Q.schedule i)
-        (λ e.
-        let o = one ∙ one-ready e in
-        let p : x ≡ both_colours m I Q i = ap (λ r. r.choice) o in
-        rw (first-ready is e, or-taken (both_colours m I Q i) (first_that_fits m I Q is) (rw p at n)) (sym o))
-        (λ e.
-        let p : x ≡ nothing = ap (λ r. r.choice) (one ∙ one-waits e) in
-        clash n (rw p))
-
 -- ---- one task, from its need
 
 module _ {I : Instance} {Q : Partial} {needs : Needs} {stairs : ByColour (List Step)} (K : Kept I Q needs stairs) {i : ℕ} (h : i < task_count I)
     {x : Need} (r : x ≡ need_at needs i) where
   pub is-ready : ready I Q.schedule i ≡ x.ready
   is-ready = sym (K.needs.admitted i h).is_ready ∙ ap (λ (n : Need). n.ready) (sym r)
-
-  pub one-tried : (m : Memory) → x.ready ≡ true → (a : Option Trial) → as_choice a ≡ both_colours m I Q i
-      → record { choice = as_choice a; trials = 2 } ≡ first_that_fits m I Q (i ∷ [])
-  one-tried m t a e = rw (one-ready m I Q i (is-ready ∙ t), e)
-
-  pub one_left : (m : Memory) → x.ready ≡ false → record { choice = nothing; trials = 0 } ≡ first_that_fits m I Q (i ∷ [])
-  one_left m u = rw (one-waits m I Q i (is-ready ∙ u))
 
 module _ (m : Memory) (b : Shape) (J : Job) (L : Entries) (last : List ℕ) where
   abbrev I : Instance
@@ -155,15 +109,27 @@ module _ (m : Memory) (b : Shape) (J : Job) (L : Entries) (last : List ℕ) wher
     here : (i : ℕ) → i < length order → drop i order ≡ get_or order i 0 ∷ drop (i + 1) order
     here i h = rw (add-one i) (drop-cons order i 0 h)
 
-    module _ {i : ℕ} (trials : ℕ) (h : i < length order) (left : Left i trials) (one : Round) (e : as_round one ≡ first_that_fits m I Q (get_or order i 0 ∷ []))
-        {x : Bool} (c : x ≡ is_chosen (as_choice one.choice)) where
-      left-next : x ≡ false → Left (i + 1) (trials + one.trials)
-      left-next n =
-          left ∙ rw (here i h, passed-by m I Q (get_or order i 0) (drop (i + 1) order) e (sym c ∙ n))
-          (after-after trials one.trials (first_that_fits m I Q (drop (i + 1) order)))
+    module _ (i : ℕ) where
+      abbrev next : ℕ
+      next = get_or order i 0
 
-      left-taken : x ≡ true → record { choice = as_choice one.choice; trials = trials + one.trials } ≡ first_that_fits m I Q order
-      left-taken n = sym (left ∙ rw (here i h, taken m I Q (get_or order i 0) (drop (i + 1) order) e (sym c ∙ n)))
+      abbrev rest : Made
+      rest = first_that_fits m I Q (drop (i + 1) order)
+
+    module _ {i : ℕ} (trials : ℕ) (h : i < length order) (left : Left i trials) where
+      left-waits : ready I Q.schedule (next i) ≡ false → Left (i + 1) trials
+      left-waits e = left ∙ rw (here i h, first-waits m I Q (next i) (drop (i + 1) order) e)
+
+      module _ (e : ready I Q.schedule (next i) ≡ true) (found : Option Trial) (f : as_choice found ≡ both_colours m I Q (next i)) {x : Bool}
+          (c : x ≡ is_chosen (as_choice found)) where
+        left-next : x ≡ false → Left (i + 1) (trials + 2)
+        left-next n =
+            left ∙ rw (here i h, first-ready m I Q (next i) (drop (i + 1) order) e, ← f, or-passed (as_choice found) (rest i) (sym c ∙ n))
+            (after-after trials 2 (rest i))
+
+        left-taken : x ≡ true → record { choice = as_choice found; trials = trials + 2 } ≡ first_that_fits m I Q order
+        left-taken n =
+            sym (left ∙ rw (here i h, first-ready m I Q (next i) (drop (i + 1) order) e, ← f, or-taken (as_choice found) (rest i) (sym c ∙ n)))
 
     left-none : {i trials : ℕ} → Left i trials → i ≡ length order → record { choice = nothing; trials = trials } ≡ first_that_fits m I Q order
     unfolding first_that_fits
@@ -178,10 +144,11 @@ module _ (m : Memory) (b : Shape) (J : Job) (last : List ℕ) (table : Needs) (s
   abbrev pub KeptFor : Entries → Type 0
   KeptFor L = Kept (instance_from b J) (partial_from b L last) table stairs
 
-  -- one task was tried alone
-  abbrev pub TriedOne : Round → ℕ → ByColour ℕ → Type 0
-  TriedOne one i idle =
-      (Q : Partial) → Kept (instance_from b J) Q table stairs → IdleOf (instance_from b J) Q idle → as_round one ≡ first_that_fits m (instance_from b J) Q (i ∷ [])
+  -- a ready task was tried on both colours
+  abbrev pub TriedBoth : Option Trial → ℕ → ByColour ℕ → Type 0
+  TriedBoth found i idle =
+      (Q : Partial) → Kept (instance_from b J) Q table stairs → IdleOf (instance_from b J) Q idle → ready (instance_from b J) Q.schedule i ≡ true
+      → as_choice found ≡ both_colours m (instance_from b J) Q i
 
   -- the round of the tasks below i
   pub record Passed (choice : Option Trial) (trials i : ℕ) : Type 0 where
@@ -198,9 +165,7 @@ module _ (m : Memory) (b : Shape) (J : Job) (last : List ℕ) (table : Needs) (s
     -- a ready task is tried on both colours
     pub passed-ready : x.ready ≡ true → {idle : ByColour ℕ} → ((K : Job) (L : Entries) → IdleOf (instance_from b K) (partial_from b L last) idle)
         → (found : Option Trial) {new : Option Trial}
-        → ((Q : Partial) → Kept (instance_from b J) Q table stairs → IdleOf (instance_from b J) Q idle → ready (instance_from b J) Q.schedule i ≡ true
-        → as_choice found ≡ both_colours m (instance_from b J) Q i)
-        → as_choice new ≡ earlier (instance_from b J) (as_choice old) (as_choice found) → Passed new (trials + 2) (i + 1)
+        → TriedBoth found i idle → as_choice new ≡ earlier (instance_from b J) (as_choice old) (as_choice found) → Passed new (trials + 2) (i + 1)
     passed-ready t starts found {new} o e = record {
       chosen = λ L k.
           let d = stands L k ∙ t in
@@ -235,11 +200,19 @@ module _ (m : Memory) (b : Shape) (J : Job) (last : List ℕ) (table : Needs) (s
     pub left_end : {i trials : ℕ} → LeftFor i trials → i ≡ length order → Found nothing trials
     left_end left e = λ L k. left-none m b J L last order (left L k) e
 
-  module _ {idle : ByColour ℕ} (starts : (K : Job) (L : Entries) → IdleOf (instance_from b K) (partial_from b L last) idle) (order : List ℕ) {i : ℕ} (trials : ℕ)
-      (h : i < length order) (left : LeftFor order i trials) (one : Round) (o : TriedOne one (get_or order i 0) idle)
-      {x : Bool} (c : x ≡ is_chosen (as_choice one.choice)) where
-    pub left-on : x ≡ false → LeftFor order (i + 1) (trials + one.trials)
-    left-on q = λ L k. left-next m b J L last order trials h (left L k) one (o (partial_from b L last) k (starts J L)) c q
+  module _ (order : List ℕ) {i : ℕ} (trials : ℕ) (h : i < length order) (left : LeftFor order i trials) (l : get_or order i 0 < b.tasks) {x : Need}
+      (r : x ≡ need_at table (get_or order i 0)) where
+    pub left-by : x.ready ≡ false → LeftFor order (i + 1) trials
+    left-by t = λ L k. left-waits m b J L last order trials h (left L k) (is-ready k (omega (arith, task-count b J, l)) r ∙ t)
 
-    pub left-found : x ≡ true → Found order (as_choice one.choice) (trials + one.trials)
-    left-found q = λ L k. left-taken m b J L last order trials h (left L k) one (o (partial_from b L last) k (starts J L)) c q
+    module _ (t : x.ready ≡ true) {idle : ByColour ℕ} (starts : (K : Job) (L : Entries) → IdleOf (instance_from b K) (partial_from b L last) idle)
+        (found : Option Trial) (o : TriedBoth found (get_or order i 0) idle) {y : Bool} (c : y ≡ is_chosen (as_choice found)) where
+      pub left-on : y ≡ false → LeftFor order (i + 1) (trials + 2)
+      left-on n = λ L k.
+          let e = is-ready k (omega (arith, task-count b J, l)) r ∙ t in
+          left-next m b J L last order trials h (left L k) e found (o (partial_from b L last) k (starts J L) e) c n
+
+      pub left-found : y ≡ true → Found order (as_choice found) (trials + 2)
+      left-found n = λ L k.
+          let e = is-ready k (omega (arith, task-count b J, l)) r ∙ t in
+          left-taken m b J L last order trials h (left L k) e found (o (partial_from b L last) k (starts J L) e) c n

@@ -39,33 +39,6 @@ fn idle_from(shape: Shape, last: &[u64; layout::LAST]) -> ByColour<u64>
     }
 }
 
-// The round of one task alone: two trials if it is ready, else none.
-fn try_task(
-    memory: Memory,
-    job: &Job,
-    needs: &Needs,
-    stairs: &ByColour<Staircase>,
-    idle: ByColour<u64>,
-    task: usize,
-) -> Round
-    requires bounds { StairsBounds stairs.now × IdleBounds idle }
-    requires task_lt_tasks { task < job.now.shape.tasks }
-    ensures result_value { (Q : Partial) →
-        Kept (instance_in job.now) Q needs.now stairs.now →
-        IdleOf (instance_in job.now) Q idle →
-        as_round result ≡ first_that_fits (as_memory memory) (instance_in job.now) Q (task ∷ []) }
-    ensures choice_bounds { ChoiceBounds job.now.shape result.choice × (result.trials ≤ 2) }
-{
-    if needs.of(task).ready {
-        let choice = both_colours(memory, job, needs, stairs, idle, task);
-        return Round { choice, trials: 2 };
-    }
-    Round {
-        choice: None,
-        trials: 0,
-    }
-}
-
 // MINMIN's round: the earliest finish of the ready tasks, ties to the lower task, then blue.
 pub fn earliest_round(
     memory: Memory,
@@ -116,11 +89,12 @@ pub fn first_that_fits(
     let idle = idle_from(job.shape, last);
     let mut trials: u64 = 0;
     for task in order {
-        let round = try_task(memory, job, needs, stairs, idle, *task);
-        let choice = round.choice;
-        trials += round.trials;
-        if choice.is_some() {
-            return Round { choice, trials };
+        if needs.of(*task).ready {
+            let choice = both_colours(memory, job, needs, stairs, idle, *task);
+            trials += 2;
+            if choice.is_some() {
+                return Round { choice, trials };
+            }
         }
     }
     Round {
