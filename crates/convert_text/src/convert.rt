@@ -14,7 +14,7 @@ use model::layout;
 use model::layout::Shape;
 use rules::{Board, Refusal};
 
-// Writes the numbers of the converted job, and answers its shape; refused if over 64 tasks or 256 files would result.
+// Writes the numbers of the converted job, and answers its shape; refused if more tasks or files than a sheet can have would result.
 pub fn convert_job(job: &Job, wide: &mut layout::Numbers) -> Result<Shape, Refusal>
     ensures { Converts job.now.shape (instance_in job.now) result wide.new }
 {

@@ -13,11 +13,11 @@ use plan_text::{Answer, plan_instance};
 use planner::Rule;
 use starts::memory::Memory;
 
+// Document 01's two planners, and their plain parents of Order 4, which do not look at the limits.
 #[derive(Clone, Copy, PartialEq, Eq)]
 pub enum Planner {
     MemHeft,
     MemMinMin,
-    // whatever the limits
     Heft,
     MinMin,
 }

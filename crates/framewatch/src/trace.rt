@@ -95,6 +95,7 @@ fn print_steps(
     let mut made = first.made;
     let mut progress = first.progress;
     for _ in 0..steps {
+        // `show` has printed a refusal before any step.
         let Ok(next) = frames::simulate(sheet, paper, made, 1) else {
             return Line::new().end(rt).ok;
         };

@@ -74,16 +74,18 @@ fn need_of(links: &Links, schedule: &layout::Schedule, task: usize, room: u64, k
 }
 
 impl Needs {
-    ghost use Rattle.std.specs.Prelude.{◌≡◌, ◌<◌, true};
+    ghost use Rattle.std.specs.Prelude.{◌≡◌, ◌<◌, true, replicate};
     ghost use Rattle.rules.specs.Limits.{max_tasks};
     ghost use Rattle.rules.specs.Model.{is_placed, run_at};
     ghost use Rattle.model.specs.Jobs.{instance_in};
     ghost use Rattle.model.specs.Layout.{schedule_of, ScheduleInBounds};
-    ghost use Rattle.needs.specs.Needs.{Admitted, NeedBounds};
+    ghost use Rattle.needs.specs.Needs.{no_need, Admitted, NeedBounds};
     ghost use Rattle.needs.specs.Tables.{need_at, SameBut, Right, RightBut};
 
     // Of a job of which nothing is worked out yet.
-    pub fn new() -> Self {
+    pub fn new() -> Self
+        ensures { result.tasks ≡ replicate max_tasks no_need }
+    {
         let need = Need {
             ready: false,
             room: 0,

@@ -28,7 +28,7 @@ as_outcome r P = ended r.claim r.trials P
 abbrev pub Claims : Instance → Schedule → Outcome → Type 0
 Claims I P r = IfOk r.claim (λ claim. as_claim claim ≡ true_claim I P)
 
--- no first amount greater than the limit
+-- at least one step, the first with no more free than the limit
 pub record FreeWithin (limit : ℕ) (steps : List Step) : Type 0 where
   pub one : 0 < length steps
   pub first : (step_at steps 0).free ≤ limit

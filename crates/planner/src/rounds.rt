@@ -94,7 +94,7 @@ fn place_task(links: &Links, schedule: &mut layout::Schedule, state: &mut State,
     state.needs.renew(links, schedule, i);
 }
 
-// The rounds, from an empty schedule and its table on.
+// The rounds, from an empty schedule on.
 fn rounds(rule: Rule, links: &Links, order: &[usize], schedule: &mut layout::Schedule) -> Outcome
     requires well_formed { WellFormed (instance_in links.now.job) × Suited (as_planner rule) (instance_in links.now.job) }
     requires schedule_value { schedule.old ≡ unplaced }

@@ -10,24 +10,36 @@ use Rattle.model.proofs.StepLaws.{any-empty}
 use Rattle.simulator.specs.Turns.{SoonestAt, Soonest}
 
 -- one tick
-pub soonest-at : (from t : ℕ) → t ≤ last_tick → from ≤ t → SoonestAt (λ u. eqb t u) from t
-soonest-at from t b l = record { within = b; after = l; holds = eq-eqb t t refl; least = λ u h e. omega (arith, eqb-true t u e) }
+at_most : (t : ℕ) → t ≤ last_tick → (u : ℕ) → eqb t u ≡ true → u ≤ last_tick
+at_most t b u e = omega (arith, eqb-true t u e)
 
-pub soonest-past : (from t : ℕ) → t < from → (u : ℕ) → from ≤ u → eqb t u ≡ true → ⊥
-soonest-past from t l u h e = omega (arith, eqb-true t u e)
+pub soonest-at : (from t : ℕ) → t ≤ last_tick → from ≤ t → Soonest (λ u. eqb t u) from (Some t)
+soonest-at from t b l = record {
+  within = at_most t b;
+  soonest = record { within = b; after = l; holds = eq-eqb t t refl; least = λ u h e. omega (arith, eqb-true t u e) };
+}
+
+pub soonest-past : (from t : ℕ) → t ≤ last_tick → t < from → Soonest (λ u. eqb t u) from None
+soonest-past from t b l = record { within = at_most t b; soonest = λ u h e. omega (arith, eqb-true t u e) }
 
 -- a test that never holds
 pub soonest-none : (p : ℕ → Bool) → ((u : ℕ) → p u ≡ false) → (from : ℕ) → Soonest p from None
-soonest-none p none from u h e = clash e (none u)
+soonest-none p none from = record { within = λ u e. clash e (none u); soonest = λ u h e. clash e (none u) }
 
 -- a test that says the same
+at-same : {p q : ℕ → Bool} → ((u : ℕ) → p u ≡ q u) → (from r : ℕ) → SoonestAt p from r → SoonestAt q from r
+at-same same from r s = record { within = s.within; after = s.after; holds = sym (same r) ∙ s.holds; least = λ u h e. s.least u h (same u ∙ e) }
+
 pub soonest-same : {p q : ℕ → Bool} → ((u : ℕ) → p u ≡ q u) → (from : ℕ) (o : Option ℕ) → Soonest p from o → Soonest q from o
-soonest-same same from None s = λ u h e. s u h (same u ∙ e)
-soonest-same same from (Some r) s = record { within = s.within; after = s.after; holds = sym (same r) ∙ s.holds; least = λ u h e. s.least u h (same u ∙ e) }
+soonest-same same from None s = record { within = λ u e. s.within u (same u ∙ e); soonest = λ u h e. s.soonest u h (same u ∙ e) }
+soonest-same same from (Some r) s = record { within = λ u e. s.within u (same u ∙ e); soonest = at-same same from r s.soonest }
 
 -- either of two tests
 module _ (p q : ℕ → Bool) (from : ℕ) where
-  either-at : (a b : ℕ) → SoonestAt p from a → SoonestAt q from b → SoonestAt (λ u. p u || q u) from (min a b)
+  abbrev both : ℕ → Bool
+  both u = p u || q u
+
+  either-at : (a b : ℕ) → SoonestAt p from a → SoonestAt q from b → SoonestAt both from (min a b)
   either-at a b x y =
       let least : (u : ℕ) → from ≤ u → p u || q u ≡ true → min a b ≤ u =
       λ u l h. by-or (p u) (q u) h (λ g. omega (arith, x.least u l g)) (λ g. omega (arith, y.least u l g)) in
@@ -40,21 +52,30 @@ module _ (p q : ℕ → Bool) (from : ℕ) where
             record { within = rw z y.within; after = rw z y.after; holds = rw z (or_right (p b) (q b) y.holds); least = least }
       ]
 
-  pub soonest-or : (a b : Option ℕ) → Soonest p from a → Soonest q from b → Soonest (λ u. p u || q u) from (sooner a b)
-  soonest-or (Some a) (Some b) x y = either-at a b x y
-  soonest-or (Some a) None x y = record {
+  one_at : (a : ℕ) → SoonestAt p from a → ((u : ℕ) → from ≤ u → q u ≡ true → ⊥) → SoonestAt both from a
+  one_at a x y = record {
     within = x.within;
     after = x.after;
     holds = rw x.holds;
     least = λ u l h. by-or (p u) (q u) h (x.least u l) (λ g. absurd (y u l g));
   }
-  soonest-or None (Some b) x y = record {
+
+  other_at : (b : ℕ) → ((u : ℕ) → from ≤ u → p u ≡ true → ⊥) → SoonestAt q from b → SoonestAt both from b
+  other_at b x y = record {
     within = y.within;
     after = y.after;
     holds = or_right (p b) (q b) y.holds;
     least = λ u l h. by-or (p u) (q u) h (λ g. absurd (x u l g)) (y.least u l);
   }
-  soonest-or None None x y = λ u l h. by-or (p u) (q u) h (x u l) (y u l)
+
+  either-within : {a b : Option ℕ} → Soonest p from a → Soonest q from b → (u : ℕ) → both u ≡ true → u ≤ last_tick
+  either-within x y u h = by-or (p u) (q u) h (x.within u) (y.within u)
+
+  pub soonest-or : (a b : Option ℕ) → Soonest p from a → Soonest q from b → Soonest (λ u. p u || q u) from (sooner a b)
+  soonest-or (Some a) (Some b) x y = record { within = either-within x y; soonest = either-at a b x.soonest y.soonest }
+  soonest-or (Some a) None x y = record { within = either-within x y; soonest = one_at a x.soonest y.soonest }
+  soonest-or None (Some b) x y = record { within = either-within x y; soonest = other_at b x.soonest y.soonest }
+  soonest-or None None x y = record { within = either-within x y; soonest = λ u l h. by-or (p u) (q u) h (x.soonest u l) (y.soonest u l) }
 
 -- ---- over the indices below a bound
 

@@ -9,6 +9,7 @@ pub record SoonestAt (p : ℕ → Bool) (from r : ℕ) : Type 0 where
   pub holds : p r ≡ true
   pub least : (u : ℕ) → from ≤ u → p u ≡ true → r ≤ u
 
--- that tick, if there is one
-abbrev pub Soonest : (ℕ → Bool) → ℕ → Option ℕ → Type 0
-Soonest p from o = MatchOption o ((u : ℕ) → from ≤ u → p u ≡ true → ⊥) (SoonestAt p from)
+-- that tick, if there is one; p holds of no tick that is later than the last
+pub record Soonest (p : ℕ → Bool) (from : ℕ) (o : Option ℕ) : Type 0 where
+  pub within : (u : ℕ) → p u ≡ true → u ≤ last_tick
+  pub soonest : MatchOption o ((u : ℕ) → from ≤ u → p u ≡ true → ⊥) (SoonestAt p from)

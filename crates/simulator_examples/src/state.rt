@@ -36,10 +36,8 @@ pub fn print_running(
     processors: u64,
 ) -> Result<()> {
     rt.write_all(b" (running")?;
-    let mut p: usize = 0;
-    while p < Board::ALL_PROCESSORS {
+    for p in 0..Board::ALL_PROCESSORS {
         print_task(rt, (p as u64) < processors, running[p])?;
-        p += 1;
     }
     rt.write_all(b")")
 }
@@ -47,10 +45,8 @@ pub fn print_running(
 // `(held ..)`: where each of the sheet's files is held. What the array has past them is shown only if it is not 0.
 pub fn print_held(rt: &impl Print, contents: [u64; Board::MAX_FILES], files: usize) -> Result<()> {
     rt.write_all(b" (held")?;
-    let mut k: usize = 0;
-    while k < Board::MAX_FILES {
+    for k in 0..Board::MAX_FILES {
         print_held_in(rt, k < files, contents[k])?;
-        k += 1;
     }
     rt.write_all(b")")
 }

@@ -35,7 +35,7 @@ fn line_from(text: &[u8], n: u64) -> &[u8]
     for _k in 0..n {
         let len = first_line(rest).len();
         if rest.len() <= len {
-            return &[];
+            return &rest[..0];
         }
         rest = &rest[len + 1..];
     }
@@ -47,7 +47,7 @@ pub fn line_at(text: &[u8], k: u64) -> &[u8]
     ensures { result.now ≡ line_at text.now k }
 {
     if k == 0 {
-        return &[];
+        return &text[..0];
     }
     line_from(text, k - 1)
 }
