@@ -1,19 +1,58 @@
--- The counts and the limits of a job's instance.
-use Rattle.std.proofs.Common.{◌≡◌}
-use Rattle.rules.specs.Model.{task_count, file_count, limit_of}
+-- The instance and the schedules of a job, by index.
+use Prim.Native.Nat.{ℕ, ◌+◌, ◌≤◌, ◌<◌}
+use mathlib.Core.List.{List}
+use mathlib.Core.Path.{◌≡◌, sym, ap, ◌∙◌}
+use native.Mathlib.Omega.{arith}
+use lib.Dec.{eqb}
+use lib.ListN.{length, get_or}
+use borrow.Author.Tests.{lt-ltb}
+use Rattle.rules.specs.Model.{Instance, task_at, task_count, file_at, file_count, limit_of, work_at, size_at, move_time_at, run_at, start_at, move_at, colour_of, finish_at}
+use Rattle.rules.specs.Validity.{Complete}
+use Rattle.rules.specs.Scheduling.{reads, makes, finish_on}
+use Rattle.rules.proofs.CountLaws.{get_or-list_below}
 use Rattle.model.specs.declared.job.Job.{Job}
 use Rattle.model.specs.declared.colour.Colour.{Colour}
+use Rattle.model.specs.declared.colour.Colour.TheVariants.{Blue}
+use Rattle.model.specs.declared.layout.Schedule.{Schedule as StoredSchedule}
 use Rattle.model.specs.Colours.{as_colour, by_colour}
-use Rattle.model.specs.Jobs.{instance_in}
-use Rattle.model.specs.Layout.{job_of}
-use Rattle.model.proofs.LayoutLaws.{task-count, file-count, limit-of}
+use Rattle.model.specs.Layout.{Entries, as_task, as_file, stored_task, stored_file, entries_of, run_from, colour_at}
+use Rattle.model.specs.Jobs.{instance_in, schedule_by, schedule_of, partial_by, AllPlaced}
+use Rattle.model.proofs.LayoutLaws as Lists
 
 module _ (j : Job) where
-  pub tasks-in : task_count (instance_in j) ≡ j.shape.tasks
-  tasks-in = task-count j.shape (job_of j.numbers.now)
+  pub tasks-in : task_count (instance_in j) ≡ length j.tasks.now
+  tasks-in = Lists.task-count j.board j.tasks.now j.files.now
 
-  pub files-in : file_count (instance_in j) ≡ j.shape.files
-  files-in = file-count j.shape (job_of j.numbers.now)
+  pub files-in : file_count (instance_in j) ≡ length j.files.now
+  files-in = Lists.file-count j.board j.tasks.now j.files.now
 
-  pub limit-in : (c : Colour) → limit_of (instance_in j) (as_colour c) ≡ by_colour c j.shape.board.blue.limit j.shape.board.red.limit
-  limit-in = limit-of j.shape (job_of j.numbers.now)
+  pub limit-in : (c : Colour) → limit_of (instance_in j) (as_colour c) ≡ by_colour c j.board.blue.limit j.board.red.limit
+  limit-in = Lists.limit-of j.board j.tasks.now j.files.now
+
+  pub task-in : (i : ℕ) → task_at (instance_in j) i ≡ as_task (stored_task j.tasks.now i)
+  task-in = Lists.task-at j.board j.tasks.now j.files.now
+
+  pub file-in : (k : ℕ) → file_at (instance_in j) k ≡ as_file (stored_file j.files.now k)
+  file-in = Lists.file-at j.board j.tasks.now j.files.now
+
+  -- ---- a schedule for it
+
+  pub run-in : (L : Entries) (i : ℕ) → i < length j.tasks.now → run_at (schedule_by j L) i ≡ run_from L i
+  run-in = Lists.run-at (length j.tasks.now) (length j.files.now)
+
+  pub move-in : (L : Entries) (k : ℕ) → k < length j.files.now → move_at (schedule_by j L) k ≡ L.move_start k
+  move-in = Lists.move-at (length j.tasks.now) (length j.files.now)
+
+  -- the last finish of each processor
+  pub last-finish-at : (L : Entries) (last : List ℕ) (p : ℕ) → p < j.board.blue.processors + j.board.red.processors
+      → get_or (partial_by j L last).last_finish p 0 ≡ get_or last p 0
+  last-finish-at L last p h = get_or-list_below (j.board.blue.processors + j.board.red.processors) (λ p. get_or last p 0) p 0 h
+
+  pub colour-in : (L : Entries) (i : ℕ) → i < length j.tasks.now → colour_at j.board L i ≡ colour_of (instance_in j) (run_at (schedule_by j L) i)
+  colour-in L i h = rw (run-in L i h, Lists.processors-of j.board j.tasks.now j.files.now Blue)
+
+  -- a schedule whose tasks are all placed
+  pub placed-complete : (xs : StoredSchedule) → AllPlaced j xs → Complete (instance_in j) (schedule_of j xs)
+  placed-complete xs placed i h =
+      let l : i < length j.tasks.now = omega (arith, tasks-in) in
+      lt-ltb 0 (run_at (schedule_of j xs) i).processor (omega (arith, placed i l, ap (λ r. r.processor) (run-in (entries_of xs) i l)))

@@ -2,7 +2,7 @@
 // ticks in no range.
 use super::colour::{Colour, cost_between};
 use super::job::Job;
-use super::layout;
+use super::layout::Schedule;
 
 // What a file costs a task: its actual move time, and what the task's colour must newly hold of it.
 #[derive(Clone, Copy)]
@@ -12,26 +12,29 @@ pub struct Cost {
 }
 
 impl Job<'_> {
-    ghost use Rattle.std.specs.Prelude.{◌≡◌, ◌<◌, ◌≤◌};
+    ghost use Rattle.std.specs.Prelude.{◌≡◌, ◌<◌, ◌≤◌, length};
     ghost use Rattle.rules.specs.Limits.{move_times, file_sizes};
     ghost use Rattle.rules.specs.Model.{run_at, colour_of, moved, actual_move_time};
     ghost use Rattle.model.specs.Colours.{as_colour};
     ghost use Rattle.model.specs.Costs.{CostOf};
-    ghost use Rattle.model.specs.Layout.{schedule_of};
-    ghost use Rattle.model.specs.Jobs.{instance_in};
+    ghost use Rattle.model.specs.Jobs.{instance_in, schedule_of};
 
-    // The colour that task i runs on.
-    pub fn colour_of(&self, schedule: &layout::Schedule, i: usize) -> Colour
-        requires { i < self.now.shape.tasks }
-        ensures { as_colour result ≡ colour_of (instance_in self.now) (run_at (schedule_of self.now.shape schedule.now) i) }
+    // The colour that task i runs on: the first processors are blue.
+    pub fn colour_of(&self, schedule: &Schedule, i: usize) -> Colour
+        requires { i < length self.now.tasks.now }
+        ensures { as_colour result ≡ colour_of (instance_in self.now) (run_at (schedule_of self.now schedule.now) i) }
     {
-        layout::colour_of(self.shape, schedule, i)
+        if schedule.processor(i) <= self.board.blue.processors {
+            Colour::Blue
+        } else {
+            Colour::Red
+        }
     }
 
     // The actual move time of file k, by the colours of its two tasks.
-    pub fn actual_move_time(&self, schedule: &layout::Schedule, k: usize) -> u64
-        requires { k < self.now.shape.files }
-        ensures value { result ≡ actual_move_time (instance_in self.now) (schedule_of self.now.shape schedule.now) k }
+    pub fn actual_move_time(&self, schedule: &Schedule, k: usize) -> u64
+        requires { k < length self.now.files.now }
+        ensures value { result ≡ actual_move_time (instance_in self.now) (schedule_of self.now schedule.now) k }
         ensures upper_bound { result ≤ move_times.most }
     {
         cost_between(
@@ -42,23 +45,17 @@ impl Job<'_> {
     }
 
     // Whether file k moves: whether its move takes time, since no move time is 0. The runs alone say so: no move start is read.
-    pub fn moves(&self, schedule: &layout::Schedule, k: usize) -> bool
-        requires { k < self.now.shape.files }
-        ensures { result ≡ moved (instance_in self.now) (schedule_of self.now.shape schedule.now) k }
+    pub fn moves(&self, schedule: &Schedule, k: usize) -> bool
+        requires { k < length self.now.files.now }
+        ensures { result ≡ moved (instance_in self.now) (schedule_of self.now schedule.now) k }
     {
         0 < self.actual_move_time(schedule, k)
     }
 
     // What file k costs the task on the colour: nothing if the task does not read it.
-    pub fn cost_for(
-        &self,
-        schedule: &layout::Schedule,
-        k: usize,
-        task: usize,
-        colour: Colour,
-    ) -> Cost
-        requires { k < self.now.shape.files }
-        ensures cost_of { CostOf (instance_in self.now) (schedule_of self.now.shape schedule.now) task (as_colour colour) k result }
+    pub fn cost_for(&self, schedule: &Schedule, k: usize, task: usize, colour: Colour) -> Cost
+        requires { k < length self.now.files.now }
+        ensures cost_of { CostOf (instance_in self.now) (schedule_of self.now schedule.now) task (as_colour colour) k result }
         ensures move_time_bound { (result.move_time ≤ move_times.most) × (result.newly_held ≤ file_sizes.most) }
     {
         if self.reader(k) != task {

@@ -1,23 +1,12 @@
-// The numbers of an instance and of a schedule as records: tasks, files, runs and move starts, beside a shape of plain numbers.
-ghost use Rattle.std.specs.Prelude.{◌≡◌, ◌<◌, ◌≤◌, max};
-ghost use Rattle.rules.specs.Limits.{max_tasks, max_files};
-ghost use Rattle.model.specs.Colours.{as_colour, by_colour};
-ghost use Rattle.model.specs.Layout.{JobInBounds, job_of, entries_of, colour_at};
-ghost use Rattle.model.specs.Layout.{Whole, WholeSchedule, no_numbers, unplaced, with_task_at, with_file_at, with_run_at, with_move_at};
+// The numbers of an instance and of a schedule as records: tasks, files, runs and move starts.
+ghost use Rattle.std.specs.Prelude.{◌≡◌};
+ghost use Rattle.model.specs.Layout.{no_numbers, unplaced};
 
-use super::colour::{Colour, by_colour};
+use arrayvec::ArrayVec;
 use rules::Board;
 
-// The counts of an instance, and its board.
-#[derive(Clone, Copy)]
-pub struct Shape {
-    pub tasks: usize,
-    pub files: usize,
-    pub board: Board,
-}
-
 // What a sheet says of a task: its run times and its working memory, 0 if it has none.
-#[derive(Clone, Copy)]
+#[derive(Clone, Copy, Default)]
 pub struct Task {
     pub on_blue: u64,
     pub on_red: u64,
@@ -25,7 +14,7 @@ pub struct Task {
 }
 
 // What a sheet says of a file: the tasks that make and read it, counted from 0, its size F and its move time C.
-#[derive(Clone, Copy)]
+#[derive(Clone, Copy, Default)]
 pub struct File {
     pub maker: u64,
     pub reader: u64,
@@ -33,33 +22,62 @@ pub struct File {
     pub move_time: u64,
 }
 
-// The tasks and the files of an instance; those past its counts mean nothing.
-#[derive(Clone, Copy)]
+// The tasks and the files of an instance.
+#[derive(Drop)]
 pub struct Numbers {
-    pub tasks: [Task; Board::MAX_TASKS],
-    pub files: [File; Board::MAX_FILES],
+    pub tasks: ArrayVec<Task, { Board::MAX_TASKS }>,
+    pub files: ArrayVec<File, { Board::MAX_FILES }>,
 }
 
 impl Numbers {
+    ghost use Rattle.std.specs.Prelude.{◌≡◌, ◌<◌, ◌++◌, ◌∷◌, [], length};
+    ghost use Rattle.rules.specs.Limits.{max_tasks, max_files};
+    ghost use Rattle.model.specs.Layout.{no_numbers};
+
     // Of no task and no file.
     pub fn new() -> Self
         ensures { result ≡ no_numbers }
     {
-        let task = Task {
-            on_blue: 0,
-            on_red: 0,
-            work: 0,
-        };
-        let file = File {
-            maker: 0,
-            reader: 0,
-            size: 0,
-            move_time: 0,
-        };
         Numbers {
-            tasks: [task; Board::MAX_TASKS],
-            files: [file; Board::MAX_FILES],
+            tasks: ArrayVec::new(),
+            files: ArrayVec::new(),
         }
+    }
+
+    // Of no task and no file again.
+    pub fn clear(&mut self)
+        ensures { self.new ≡ no_numbers }
+    {
+        self.tasks.clear();
+        self.files.clear();
+    }
+
+    // With a task behind those that are there.
+    pub fn push_task(&mut self, on_blue: u64, on_red: u64, work: u64)
+        requires { length self.old.tasks.items < max_tasks }
+        ensures tasks { self.new.tasks.items ≡ self.old.tasks.items ++ record { on_blue = on_blue; on_red = on_red; work = work } ∷ [] }
+        ensures files { self.new.files ≡ self.old.files }
+    {
+        self.tasks.push(Task {
+            on_blue,
+            on_red,
+            work,
+        });
+    }
+
+    // With a file behind those that are there.
+    pub fn push_file(&mut self, maker: u64, reader: u64, size: u64, move_time: u64)
+        requires { length self.old.files.items < max_files }
+        ensures files { self.new.files.items ≡ self.old.files.items ++
+            record { maker = maker; reader = reader; size = size; move_time = move_time } ∷ [] }
+        ensures tasks { self.new.tasks ≡ self.old.tasks }
+    {
+        self.files.push(File {
+            maker,
+            reader,
+            size,
+            move_time,
+        });
     }
 }
 
@@ -70,7 +88,8 @@ pub struct Run {
     pub start: u64,
 }
 
-// The run of each task, and the move start of each file.
+// The run of each task, and the move start of each file; those past the counts of the job mean nothing. Arrays, not lists of the job's length:
+// a planner fills them in its own order, and such lists would carry in each contract that they are as long as the job's.
 #[derive(Clone, Copy)]
 pub struct Schedule {
     pub runs: [Run; Board::MAX_TASKS],
@@ -78,6 +97,10 @@ pub struct Schedule {
 }
 
 impl Schedule {
+    ghost use Rattle.std.specs.Prelude.{◌≡◌, ◌<◌};
+    ghost use Rattle.rules.specs.Limits.{max_tasks, max_files};
+    ghost use Rattle.model.specs.Layout.{WholeSchedule, entries_of, unplaced, with_run_at, with_move_at};
+
     // No task placed.
     pub fn new() -> Self
         ensures { result ≡ unplaced }
@@ -91,132 +114,46 @@ impl Schedule {
             moves: [0; Board::MAX_FILES],
         }
     }
-}
 
-// The last finish of each processor, blue ones first.
-pub const LAST: usize = Board::ALL_PROCESSORS;
-
-// The run time of task i on a processor of the colour.
-pub fn run_time(job: &Numbers, i: usize, colour: Colour) -> u64
-    requires { i < max_tasks }
-    ensures value { result ≡ by_colour colour ((job_of job.now).on_blue i) ((job_of job.now).on_red i) }
-    ensures upper_bound { result ≤ max ((job_of job.now).on_blue i) ((job_of job.now).on_red i) }
-{
-    by_colour(colour, job.tasks[i].on_blue, job.tasks[i].on_red)
-}
-
-// The working memory of task i, 0 if it has none.
-pub fn work(job: &Numbers, i: usize) -> u64
-    requires { i < max_tasks }
-    ensures { result ≡ (job_of job.now).work i }
-{
-    job.tasks[i].work
-}
-
-// The maker of file k as stored: nothing is known of it yet.
-pub fn stored_maker(job: &Numbers, k: usize) -> u64
-    requires { k < max_files }
-    ensures { result ≡ (job_of job.now).maker k }
-{
-    job.files[k].maker
-}
-
-// The reader of file k, likewise.
-pub fn stored_reader(job: &Numbers, k: usize) -> u64
-    requires { k < max_files }
-    ensures { result ≡ (job_of job.now).reader k }
-{
-    job.files[k].reader
-}
-
-pub fn size(job: &Numbers, k: usize) -> u64
-    requires { k < max_files }
-    ensures { result ≡ (job_of job.now).size k }
-{
-    job.files[k].size
-}
-
-pub fn move_time(job: &Numbers, k: usize) -> u64
-    requires { k < max_files }
-    ensures { result ≡ (job_of job.now).move_time k }
-{
-    job.files[k].move_time
-}
-
-pub fn processor(schedule: &Schedule, i: usize) -> u64
-    requires { i < max_tasks }
-    ensures { result ≡ (entries_of schedule.now).processor i }
-{
-    schedule.runs[i].processor
-}
-
-pub fn start(schedule: &Schedule, i: usize) -> u64
-    requires { i < max_tasks }
-    ensures { result ≡ (entries_of schedule.now).start i }
-{
-    schedule.runs[i].start
-}
-
-pub fn move_start(schedule: &Schedule, k: usize) -> u64
-    requires { k < max_files }
-    ensures { result ≡ (entries_of schedule.now).move_start k }
-{
-    schedule.moves[k]
-}
-
-// The colour that task i runs on: the first processors are blue.
-pub fn colour_of(shape: Shape, schedule: &Schedule, i: usize) -> Colour
-    requires { i < max_tasks }
-    ensures { as_colour result ≡ colour_at shape (entries_of schedule.now) i }
-{
-    if processor(schedule, i) <= shape.board.blue.processors {
-        Colour::Blue
-    } else {
-        Colour::Red
+    // The processor of task i, 0 if it is not placed.
+    pub fn processor(&self, i: usize) -> u64
+        requires { i < max_tasks }
+        ensures { result ≡ (entries_of self.now).processor i }
+    {
+        self.runs[i].processor
     }
-}
 
-// Writes the run times and the working memory of task i.
-pub fn set_task(job: &mut Numbers, i: usize, blue: u64, red: u64, work: u64)
-    requires { i < max_tasks }
-    ensures job_after { job.new ≡ with_task_at job.old i blue red work }
-    ensures job_len { Whole job.old × Whole job.new }
-{
-    job.tasks[i] = Task {
-        on_blue: blue,
-        on_red: red,
-        work,
-    };
-}
+    // The start of task i.
+    pub fn start(&self, i: usize) -> u64
+        requires { i < max_tasks }
+        ensures { result ≡ (entries_of self.now).start i }
+    {
+        self.runs[i].start
+    }
 
-// Writes the four numbers of file k.
-pub fn set_file(job: &mut Numbers, k: usize, maker: u64, reader: u64, size: u64, time: u64)
-    requires { k < max_files }
-    ensures job_after { job.new ≡ with_file_at job.old k maker reader size time }
-    ensures job_len { Whole job.old × Whole job.new }
-{
-    job.files[k] = File {
-        maker,
-        reader,
-        size,
-        move_time: time,
-    };
-}
+    // The move start of file k.
+    pub fn move_start(&self, k: usize) -> u64
+        requires { k < max_files }
+        ensures { result ≡ (entries_of self.now).move_start k }
+    {
+        self.moves[k]
+    }
 
-// Writes the run of task i.
-pub fn set_run(schedule: &mut Schedule, i: usize, processor: u64, start: u64)
-    requires { i < max_tasks }
-    ensures schedule_after { schedule.new ≡ with_run_at schedule.old i processor start }
-    ensures schedule_len { WholeSchedule schedule.old × WholeSchedule schedule.new }
-{
-    schedule.runs[i] = Run { processor, start };
-}
+    // Writes the run of task i.
+    pub fn set_run(&mut self, i: usize, processor: u64, start: u64)
+        requires { i < max_tasks }
+        ensures schedule_after { self.new ≡ with_run_at self.old i processor start }
+        ensures schedule_len { WholeSchedule self.old × WholeSchedule self.new }
+    {
+        self.runs[i] = Run { processor, start };
+    }
 
-// Writes the move start of file k.
-pub fn set_move_start(schedule: &mut Schedule, k: usize, start: u64)
-    requires { k < max_files }
-    ensures schedule_after { schedule.new ≡ with_move_at schedule.old k start }
-    ensures schedule_len { WholeSchedule schedule.old × WholeSchedule schedule.new }
-{
-    schedule.moves[k] = start;
+    // Writes the move start of file k.
+    pub fn set_move_start(&mut self, k: usize, start: u64)
+        requires { k < max_files }
+        ensures schedule_after { self.new ≡ with_move_at self.old k start }
+        ensures schedule_len { WholeSchedule self.old × WholeSchedule self.new }
+    {
+        self.moves[k] = start;
+    }
 }

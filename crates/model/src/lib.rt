@@ -1,4 +1,4 @@
-// The instance and the schedule as arrays of numbers; the two colours, and what a file costs between them; what the memories hold; the makespan.
+// The instance and the schedule in the code; the two colours, and what a file costs between them; what the memories hold; the makespan.
 #![tactic(auto)]
 
 pub mod claim;

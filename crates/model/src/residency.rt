@@ -71,7 +71,7 @@ fn closed_hold(here: bool, times: FileTimes) -> Hold
 }
 
 impl Timetable<'_> {
-    ghost use Rattle.std.specs.Prelude.{◌≡◌, ◌<◌, ◌≤◌, ◌&&◌};
+    ghost use Rattle.std.specs.Prelude.{◌≡◌, ◌<◌, ◌≤◌, ◌&&◌, length};
     ghost use Rattle.rules.specs.Model.{run_at, is_placed, same_colour, colour_of, finish_at, release_at};
     ghost use Rattle.rules.specs.Residency.{hold_of, work_of};
     ghost use Rattle.model.specs.Colours.{as_colour};
@@ -81,7 +81,7 @@ impl Timetable<'_> {
 
     // The finish of task i's run.
     pub fn finish(&self, i: usize) -> u64
-        requires { i < self.now.job.shape.tasks }
+        requires { i < length self.now.job.tasks.now }
         ensures value { result ≡ finish_at (instance_in self.now.job) (schedule_in self.now) i }
         ensures upper_bound { result ≤ last_tick }
     {
@@ -91,7 +91,7 @@ impl Timetable<'_> {
     // Until when task i's run keeps the files that it reads and its working memory: its finish, but the tick after its start if it takes no
     // time. The one place of the code that says so.
     pub fn release(&self, i: usize) -> u64
-        requires { i < self.now.job.shape.tasks }
+        requires { i < length self.now.job.tasks.now }
         ensures value { result ≡ release_at (instance_in self.now.job) (schedule_in self.now) i }
         ensures upper_bound { result ≤ last_tick }
     {
@@ -100,7 +100,7 @@ impl Timetable<'_> {
 
     // The move of file k, if it moves: from its move start, for its move time.
     fn transfer_of(&self, k: usize) -> Option<Transfer>
-        requires { k < self.now.job.shape.files }
+        requires { k < length self.now.job.files.now }
         ensures transfer_of { TransferOf (instance_in self.now.job) (schedule_in self.now) k result }
         ensures within { TransferWithin last_tick result }
     {
@@ -116,7 +116,7 @@ impl Timetable<'_> {
 
     // What the two runs of file k imply.
     pub fn file_times(&self, k: usize) -> FileTimes
-        requires { k < self.now.job.shape.files }
+        requires { k < length self.now.job.files.now }
         ensures times_of { TimesOf (instance_in self.now.job) (schedule_in self.now) k result }
         ensures times_within { TimesWithin last_tick result }
     {
@@ -133,7 +133,7 @@ impl Timetable<'_> {
 
     // The hold of file k in the memory of the colour.
     pub fn hold_of(&self, k: usize, colour: Colour) -> Hold
-        requires { k < self.now.job.shape.files }
+        requires { k < length self.now.job.files.now }
         ensures result_value { as_hold result ≡ hold_of (instance_in self.now.job) (schedule_in self.now) (as_colour colour) k }
         ensures within { Within last_tick result }
     {
@@ -150,16 +150,16 @@ impl Timetable<'_> {
 
     // Whether task i is placed on a processor of the colour.
     fn runs_on(&self, i: usize, colour: Colour) -> bool
-        requires { i < self.now.job.shape.tasks }
-        ensures { result ≡
-            is_placed (run_at (schedule_in self.now) i) && same_colour (colour_of (instance_in self.now.job) (run_at (schedule_in self.now) i)) (as_colour colour) }
+        requires { i < length self.now.job.tasks.now }
+        ensures { let r = run_at (schedule_in self.now) i in
+            result ≡ (is_placed r && same_colour (colour_of (instance_in self.now.job) r) (as_colour colour)) }
     {
         self.is_placed(i) && self.colour_of(i) == colour
     }
 
     // The hold of task i's working memory in the memory of the colour: the run's own, from its start until its release.
     pub fn work_hold(&self, i: usize, colour: Colour) -> Hold
-        requires { i < self.now.job.shape.tasks }
+        requires { i < length self.now.job.tasks.now }
         ensures result_value { as_hold result ≡ work_of (instance_in self.now.job) (schedule_in self.now) (as_colour colour) i }
         ensures within { Within last_tick result }
     {

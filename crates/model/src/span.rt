@@ -13,7 +13,7 @@ impl Timetable<'_> {
         ensures upper_bound { result ≤ last_tick }
     {
         let mut most = 0;
-        for i in 0..self.job.shape.tasks {
+        for i in 0..self.job.tasks.len() {
             most = self.finish(i).max(most);
         }
         most

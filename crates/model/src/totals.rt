@@ -15,7 +15,7 @@ impl Timetable<'_> {
         ensures upper_bound { result ≤ most_files }
     {
         let mut sum = 0;
-        for k in 0..self.job.shape.files {
+        for k in 0..self.job.files.len() {
             let size = self.job.size(k);
             if self.hold_of(k, colour).covers(t) {
                 sum += size;
@@ -31,7 +31,7 @@ impl Timetable<'_> {
         ensures upper_bound { result ≤ most_work }
     {
         let mut sum = 0;
-        for i in 0..self.job.shape.tasks {
+        for i in 0..self.job.tasks.len() {
             let work = self.job.work(i);
             if self.work_hold(i, colour).covers(t) {
                 sum += work;

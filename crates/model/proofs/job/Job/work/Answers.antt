@@ -1,8 +1,7 @@
 -- `work` meets its contract.
-use mathlib.Core.Path.{sym, ◌∙◌}
-use Rattle.model.specs.Layout.{job_of}
-use Rattle.model.proofs.LayoutLaws.{work-at}
+use mathlib.Core.Path.{sym, ap}
+use Rattle.model.proofs.JobLaws.{task-in}
 use Rattle.model.proofs.job.Job.work.Goals as goal
 
 pub returns-clause-value : goal.returns-clause-value
-returns-clause-value c = c.work.ensures ∙ sym (work-at c.args.self.now.shape (job_of c.args.self.now.numbers.now) c.args.i c.requires)
+returns-clause-value c = sym (ap (λ t. t.work) (task-in c.args.self.now c.args.i))

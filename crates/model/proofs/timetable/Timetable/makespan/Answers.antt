@@ -2,8 +2,7 @@ use Rattle.std.proofs.Common.{◌≡◌, sym, arith}
 use Rattle.rules.specs.Model.{task_count, finish_at}
 use Rattle.rules.specs.Validity.{makespan}
 use Rattle.model.specs.Jobs.{instance_in, schedule_in}
-use Rattle.model.specs.Layout.{job_of}
-use Rattle.model.proofs.LayoutLaws.{task-count}
+use Rattle.model.proofs.JobLaws.{tasks-in}
 use Rattle.model.proofs.StepLaws.{max_none, max-next}
 use Rattle.model.proofs.timetable.Timetable.makespan.Goals as goal
 
@@ -20,5 +19,5 @@ pub returns-clause-value : goal.returns-clause-value
 unfolding makespan
 returns-clause-value c =
     let j = c.args.self.now.job in
-    let all : c.loop-i.i ≡ task_count (instance_in j) = omega (arith, task-count j.shape (job_of j.numbers.now)) in
+    let all : c.loop-i.i ≡ task_count (instance_in j) = omega (arith, tasks-in j) in
     rw all at c.loop-i.invariant.value

@@ -5,4 +5,4 @@ use Rattle.model.proofs.LayoutLaws.{processor-at}
 use Rattle.model.proofs.timetable.Timetable.processor.Goals as goal
 
 pub returns : goal.returns
-returns c = c.processor.ensures ∙ sym (processor-at c.args.self.now.job.shape (entries_of c.args.self.now.schedule.now) c.args.i c.requires)
+returns c = c.processor.ensures ∙ sym (processor-at _ _ (entries_of c.args.self.now.schedule.now) c.args.i c.requires)

@@ -3,8 +3,7 @@ use Rattle.rules.specs.Model.{task_count, work_at}
 use Rattle.rules.specs.Residency.{Hold, covers, is_work_held, work_held}
 use Rattle.model.specs.Colours.{as_colour}
 use Rattle.model.specs.Jobs.{instance_in, schedule_in}
-use Rattle.model.specs.Layout.{job_of}
-use Rattle.model.proofs.LayoutLaws.{task-count}
+use Rattle.model.proofs.JobLaws.{tasks-in}
 use Rattle.model.proofs.StepLaws.{sum-none, sum-yes, sum-no}
 use Rattle.model.proofs.timetable.Timetable.work_held.Goals as goal
 use Rattle.model.proofs.timetable.Timetable.work_held.Goals.{then-covers, else-covers}
@@ -27,5 +26,5 @@ pub returns-clause-value : goal.returns-clause-value
 unfolding work_held
 returns-clause-value c =
     let j = c.args.self.now.job in
-    let all : c.loop-i.i ≡ task_count (instance_in j) = omega (arith, task-count j.shape (job_of j.numbers.now)) in
+    let all : c.loop-i.i ≡ task_count (instance_in j) = omega (arith, tasks-in j) in
     rw all at c.loop-i.invariant.value
