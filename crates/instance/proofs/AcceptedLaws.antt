@@ -1,4 +1,4 @@
--- What `read` tells its caller: an accepted instance is well formed, and its job array is in its bounds; a refusal has the sheet's fault and line.
+-- What `read` tells its caller: an accepted instance is well formed, and its numbers are in their bounds; a refusal has the sheet's fault and line.
 use Prim.Native.Nat.{ℕ}
 use mathlib.Core.Path.{◌≡◌, refl, subst}
 use mathlib.Core.List.{List}
@@ -10,9 +10,9 @@ use Rattle.rules.specs.Refusals.{as_fault}
 use Rattle.rules.specs.declared.refusal.Fault.{Fault}
 use Rattle.rules.specs.declared.refusal.Refusal.{Refusal}
 use Rattle.rules.specs.declared.refusal.Refusal.TheVariants.{Sheet, Timetable, Overlap, Early, OverLimit, UntrueClaim, Stuck, Short, TooManyTasks, TooManyFiles}
-use Rattle.model.specs.Layout.{job_of, instance_from, JobBounds}
+use Rattle.model.specs.Layout.{instance_with, JobBounds}
 use Rattle.model.specs.declared.layout.Numbers.{Numbers}
-use Rattle.model.specs.declared.layout.Shape.{Shape}
+use Rattle.rules.specs.declared.Board.{Board}
 use Rattle.model.proofs.LayoutLaws.{job-bounds}
 use Rattle.instance.specs.Reads.{IsRead}
 
@@ -36,16 +36,16 @@ of_sheet sheet TooManyTasks xs q = absurd q
 of_sheet sheet TooManyFiles xs q = absurd q
 
 -- what `read` ensures, by the case that its caller found
-module _ (sheet : List ℕ) (r : Result Shape Refusal) (xs : Numbers) (q : IsRead r xs (read_instance sheet)) where
-  pub read-accepted : (b : Shape) → r ≡ Ok b → read_instance sheet ≡ accepted (instance_from b (job_of xs))
-  read-accepted b e = subst (λ (x : Result Shape Refusal). IsRead x xs (read_instance sheet)) e q
+module _ (sheet : List ℕ) (r : Result Board Refusal) (xs : Numbers) (q : IsRead r xs (read_instance sheet)) where
+  pub read-accepted : (b : Board) → r ≡ Ok b → read_instance sheet ≡ accepted (instance_with b xs)
+  read-accepted b e = subst (λ (x : Result Board Refusal). IsRead x xs (read_instance sheet)) e q
 
   pub read-refused : (e : Refusal) → r ≡ Err e → OfSheet sheet e
-  read-refused e p = of_sheet sheet e xs (subst (λ (x : Result Shape Refusal). IsRead x xs (read_instance sheet)) p q)
+  read-refused e p = of_sheet sheet e xs (subst (λ (x : Result Board Refusal). IsRead x xs (read_instance sheet)) p q)
 
-module _ (sheet : List ℕ) (b : Shape) (xs : Numbers) (e : read_instance sheet ≡ accepted (instance_from b (job_of xs))) where
-  pub well-formed : WellFormed (instance_from b (job_of xs))
+module _ (sheet : List ℕ) (b : Board) (xs : Numbers) (e : read_instance sheet ≡ accepted (instance_with b xs)) where
+  pub well-formed : WellFormed (instance_with b xs)
   well-formed = ((sheet_exact sheet _).0 e).0
 
-  pub accepted-bounds : JobBounds b (job_of xs)
-  accepted-bounds = job-bounds b (job_of xs) well-formed
+  pub accepted-bounds : JobBounds b xs.tasks.items xs.files.items
+  accepted-bounds = job-bounds b xs.tasks.items xs.files.items well-formed

@@ -15,14 +15,14 @@ use Rattle.rules.specs.InstanceText.{read_rest_by, read_rest, read_lines_by, rea
 use Rattle.rules.proofs.LineLaws.{no_lines}
 use Rattle.rules.proofs.InstanceLineLaws.{line-says}
 use Rattle.text.proofs.FirstLineLaws.{no_line}
-use Rattle.model.specs.Layout.{job_of, instance_from}
+use Rattle.model.specs.Layout.{instance_of, instance_with, no_numbers}
 use Rattle.model.specs.declared.layout.Numbers.{Numbers}
-use Rattle.model.specs.declared.layout.Shape.{Shape}
+use Rattle.rules.specs.declared.Board.{Board as AnyBoard}
 use Rattle.model.proofs.LayoutLaws.{task-count}
 use Rattle.instance.specs.declared.line.Line.{Line as Parsed}
 use Rattle.instance.specs.declared.line.Line.TheVariants.{Board, Task, File}
 use Rattle.instance.specs.Lines.{as_line, Numbered}
-use Rattle.instance.specs.Steps.{Room}
+use Rattle.instance.specs.Steps.{board_alone}
 use Rattle.text.specs.Due.{first_says, Took}
 use Rattle.text.proofs.DueLaws.{said_as}
 
@@ -60,42 +60,40 @@ lines-refused [] w e = cc
 lines-refused (l ∷ ls) w e = lines-wrong l ls w e
 
 -- ---- the loop over the lines behind the board's
-pub record Reading (begun : Shape) (sheet : List ℕ) (old : Numbers) (shape : Shape) (xs : Numbers) (rest : List ℕ) (k : ℕ) : Type 0 where
-  pub room : Room shape
+pub record Reading (b : AnyBoard) (sheet : List ℕ) (old xs : Numbers) (rest : List ℕ) (k : ℕ) : Type 0 where
   pub places : k + length rest ≤ 2 + length sheet
-  pub left : read_rest (instance_from begun (job_of old)) 2 (lines_of sheet) ≡ read_rest (instance_from shape (job_of xs)) k (lines_of rest)
+  pub left : read_rest (instance_with b old) 2 (lines_of sheet) ≡ read_rest (instance_with b xs) k (lines_of rest)
 
-pub reading-start : (begun : Shape) (sheet : List ℕ) (old : Numbers) → Room begun → Reading begun sheet old begun old sheet 2
-reading-start begun sheet old r = record { room = r; places = omega arith; left = refl }
+pub reading-start : (b : AnyBoard) (sheet : List ℕ) (old : Numbers) → Reading b sheet old old sheet 2
+reading-start b sheet old = record { places = omega arith; left = refl }
 
-module _ {begun : Shape} {sheet : List ℕ} {old : Numbers} {shape : Shape} {xs : Numbers} {rest : List ℕ} {k : ℕ} (inv : Reading begun sheet old shape xs rest k) where
+module _ {b : AnyBoard} {sheet : List ℕ} {old xs : Numbers} {rest : List ℕ} {k : ℕ} (inv : Reading b sheet old xs rest k) where
   -- a line that is refused
-  pub reading-refused : 0 < length rest → (w : Fault) → due (with_line (instance_from shape (job_of xs))) (first_says instance_line (lines_of rest)) ≡ wrong w
-      → read_rest (instance_from begun (job_of old)) 2 (lines_of sheet) ≡ refused w k
+  pub reading-refused : 0 < length rest → (w : Fault) → due (with_line (instance_with b xs)) (first_says instance_line (lines_of rest)) ≡ wrong w
+      → read_rest (instance_with b old) 2 (lines_of sheet) ≡ refused w k
   reading-refused h w d = inv.left ∙ rest-refused _ k (lines_of rest) w d (λ e. omega (arith, ap length (no_lines rest e)))
 
   -- a line that is taken
-  pub reading-next : {behind : List ℕ} (b : Shape) (ys : Numbers) → Room b
-      → Took instance_line (with_line (instance_from shape (job_of xs))) rest behind (instance_from b (job_of ys)) → Reading begun sheet old b ys behind (k + 1)
-  reading-next b ys r t =
+  pub reading-next : {behind : List ℕ} (ys : Numbers) → Took instance_line (with_line (instance_with b xs)) rest behind (instance_with b ys)
+      → Reading b sheet old ys behind (k + 1)
+  reading-next ys t =
       record {
-        room = r;
         places = omega (arith, inv.places, t.shorter);
         left = inv.left ∙ rw (t.lines, add-one k) (rest-right _ k t.line _ _ t.due);
       }
 
   -- no line is left
   module _ (h : length rest ≤ 0) where
-    none_left : read_rest (instance_from begun (job_of old)) 2 (lines_of sheet) ≡ read_rest (instance_from shape (job_of xs)) k []
+    none_left : read_rest (instance_with b old) 2 (lines_of sheet) ≡ read_rest (instance_with b xs) k []
     none_left = inv.left ∙ rw (drop_of_length-le rest {i = 0} h, no_line)
 
-    pub reading-absent : shape.tasks ≡ 0 → read_rest (instance_from begun (job_of old)) 2 (lines_of sheet) ≡ refused malformed k
+    pub reading-absent : length xs.tasks.items ≡ 0 → read_rest (instance_with b old) 2 (lines_of sheet) ≡ refused malformed k
     unfolding read_rest_by
-    reading-absent z = none_left ∙ rw (task-count shape (job_of xs), eq-eqb _ _ z)
+    reading-absent z = none_left ∙ rw (task-count b xs.tasks.items xs.files.items, eq-eqb _ _ z)
 
-    pub reading-done : (shape.tasks ≡ 0 → ⊥) → read_rest (instance_from begun (job_of old)) 2 (lines_of sheet) ≡ accepted (instance_from shape (job_of xs))
+    pub reading-done : (length xs.tasks.items ≡ 0 → ⊥) → read_rest (instance_with b old) 2 (lines_of sheet) ≡ accepted (instance_with b xs)
     unfolding read_rest_by
-    reading-done z = none_left ∙ rw (task-count shape (job_of xs), ne_eqb _ _ z)
+    reading-done z = none_left ∙ rw (task-count b xs.tasks.items xs.files.items, ne_eqb _ _ z)
 
 -- ---- the whole sheet
 module _ (sheet : List ℕ) where
@@ -113,3 +111,8 @@ module _ (sheet : List ℕ) where
 
     pub sheet-begun : {rest : List ℕ} {I : Instance} → Took instance_line with_board sheet rest I → read_instance sheet ≡ read_rest I 2 (lines_of rest)
     sheet-begun t = by_lines ∙ rw t.lines (lines-right t.line _ _ t.due)
+
+-- the instance of a board, before the first task
+pub alone : (b : AnyBoard) → board_alone b ≡ instance_with b no_numbers
+unfolding instance_of
+alone b = refl

@@ -12,9 +12,10 @@ use Rattle.rules.specs.InstanceText.{task_form, work_form, board_line, task_line
 use Rattle.rules.proofs.InstanceTextLaws.{task_said, file_said, tasks-next, files-next, text-parts}
 use Rattle.text.proofs.SizeLaws.{three-length}
 use Rattle.text.proofs.LaidLaws.{Fits, three-fit}
-use Rattle.model.specs.declared.layout.Shape.{Shape}
-use Rattle.model.specs.Layout.{Job, instance_from}
-use Rattle.model.proofs.LayoutLaws.{task-count, file-count}
+use Rattle.model.specs.declared.job.Job.{Job}
+use Rattle.model.specs.Layout.{instance_of}
+use Rattle.model.specs.Jobs.{instance_in}
+use Rattle.model.proofs.JobLaws.{tasks-in, files-in}
 
 -- ---- a task's line, by whether W is left out
 module _ (i b r w : ℕ) where
@@ -49,23 +50,23 @@ module _ (I : Instance) where
       → instance_bytes (file_line (m + 1) (d + 1) s t) ++ lf ≡ file_piece I k
   file-piece k m d s t p q u v = rw (p, q, u, v, add-one (file_at I k).maker, add-one (file_at I k).reader)
 
-module _ (b : Shape) (J : Job) where
+module _ (j : Job) where
   -- ---- the whole text
   abbrev I : Instance
-  I = instance_from b J
+  I = instance_in j
 
   abbrev board_part : List ℕ
-  board_part = instance_bytes (board_line (side_from b.board.blue) (side_from b.board.red)) ++ lf
+  board_part = instance_bytes (board_line (side_from j.board.blue) (side_from j.board.red)) ++ lf
 
   abbrev tasks_part : List ℕ
-  tasks_part = task_lines I b.tasks
+  tasks_part = task_lines I (length j.tasks.now)
 
   abbrev files_part : List ℕ
-  files_part = file_lines I b.files
+  files_part = file_lines I (length j.files.now)
 
   pub text-pieces : instance_text I ≡ (board_part ++ tasks_part) ++ files_part
-  unfolding instance_from
-  text-pieces = text-parts I ∙ rw (task-count b J, file-count b J) (simp append_assoc)
+  unfolding instance_of
+  text-pieces = text-parts I ∙ rw (tasks-in j, files-in j) (simp append_assoc)
 
   pub text-length : (r m l : ℕ) → r ≡ length board_part → m ≡ length tasks_part → l ≡ length files_part → r + m + l ≡ length (instance_text I)
   text-length r m l p q s = rw text-pieces (three-length board_part tasks_part files_part p q s)

@@ -1,30 +1,23 @@
--- What adding a line gives, as the rules have it.
-use Rattle.std.specs.Prelude.{◌≤◌, Result, Ok, Err}
+-- What the first line gives, and what adding a line gives, as the rules have it.
+use Rattle.std.specs.Prelude.{[], Result, Ok, Err}
 use Rattle.rules.specs.Model.{Instance}
+use Rattle.rules.specs.BoardType.{side_from}
 use Rattle.rules.specs.Text.{Reading, wrong, right}
-use Rattle.rules.specs.Limits.{max_tasks, max_files}
 use Rattle.rules.specs.Refusals.{as_fault}
 use Rattle.rules.specs.declared.refusal.Fault.{Fault}
-use Rattle.model.specs.Layout.{job_of, instance_from}
+use Rattle.rules.specs.declared.Board.{Board}
+use Rattle.model.specs.Layout.{instance_with}
 use Rattle.model.specs.declared.layout.Numbers.{Numbers}
-use Rattle.model.specs.declared.layout.Shape.{Shape}
-use Rattle.text.specs.declared.lines.Taken.{Taken}
 
--- the tasks and the files have their places in the job array
-pub record Room (b : Shape) : Type 0 where
-  pub tasks : b.tasks ≤ max_tasks
-  pub files : b.files ≤ max_files
+-- the instance of a board, without a task or a file
+abbrev pub board_alone : Board → Instance
+board_alone b = record { blue_side = side_from b.blue; red_side = side_from b.red; tasks = []; files = [] }
 
--- a step, with the numbers that it left
-abbrev pub as_step : Result Shape Fault → Numbers → Reading Instance
-as_step (Ok b) xs = right (instance_from b (job_of xs))
-as_step (Err w) xs = wrong (as_fault w)
+abbrev pub as_start : Result Board Fault → Reading Instance
+as_start (Ok b) = right (board_alone b)
+as_start (Err w) = wrong (as_fault w)
 
--- the same of the shape that a step leads to
-abbrev pub RoomIn : Result Shape Fault → Type 0
-RoomIn (Ok b) = Room b
-RoomIn (Err w) = Unit {0}
-
-abbrev pub RoomBehind : Result (Taken Shape) Fault → Type 0
-RoomBehind (Ok t) = Room t.value
-RoomBehind (Err w) = Unit {0}
+-- a step on a board, with the numbers that it left
+abbrev pub as_step : Board → Result Unit Fault → Numbers → Reading Instance
+as_step b (Ok u) xs = right (instance_with b xs)
+as_step b (Err w) xs = wrong (as_fault w)

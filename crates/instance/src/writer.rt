@@ -48,10 +48,10 @@ fn put_file<S: Sink>(sink: &mut S, i: u64, j: u64, size: u64, time: u64)
 
 // The tasks' lines.
 fn put_tasks<S: Sink>(sink: &mut S, job: &Job<'_>)
-    requires { S.room sink.old (task_lines (instance_in job.now) job.now.shape.tasks) }
-    ensures { S.laid sink.old (task_lines (instance_in job.now) job.now.shape.tasks) sink.new }
+    requires { S.room sink.old (task_lines (instance_in job.now) (length job.now.tasks.now)) }
+    ensures { S.laid sink.old (task_lines (instance_in job.now) (length job.now.tasks.now)) sink.new }
 {
-    for i in 0..job.shape.tasks {
+    for i in 0..job.tasks.len() {
         let blue = job.run_time(i, Colour::Blue);
         let red = job.run_time(i, Colour::Red);
         let work = job.work(i);
@@ -61,10 +61,10 @@ fn put_tasks<S: Sink>(sink: &mut S, job: &Job<'_>)
 
 // The files' lines.
 fn put_files<S: Sink>(sink: &mut S, job: &Job<'_>)
-    requires { S.room sink.old (file_lines (instance_in job.now) job.now.shape.files) }
-    ensures { S.laid sink.old (file_lines (instance_in job.now) job.now.shape.files) sink.new }
+    requires { S.room sink.old (file_lines (instance_in job.now) (length job.now.files.now)) }
+    ensures { S.laid sink.old (file_lines (instance_in job.now) (length job.now.files.now)) sink.new }
 {
-    for k in 0..job.shape.files {
+    for k in 0..job.files.len() {
         let maker = job.maker(k) as u64;
         let reader = job.reader(k) as u64;
         let size = job.size(k);
@@ -78,7 +78,7 @@ fn put_sheet<S: Sink>(sink: &mut S, job: &Job<'_>)
     requires { S.room sink.old (instance_text (instance_in job.now)) }
     ensures { S.laid sink.old (instance_text (instance_in job.now)) sink.new }
 {
-    put_board(sink, job.shape.board);
+    put_board(sink, job.board);
     put_tasks(sink, job);
     put_files(sink, job);
 }

@@ -50,8 +50,5 @@ pub fn by_colour(colour: Colour, blue: u64, red: u64) -> u64
     ensures upper_bound { result ≤ max blue red }
     ensures lower_bound { min blue red ≤ result }
 {
-    match colour {
-        Colour::Blue => blue,
-        Colour::Red => red,
-    }
+    *ByColour { blue, red }.get(colour)
 }

@@ -2,7 +2,7 @@
 ghost use Rattle.model.specs.Layout.{JobBounds};
 
 use super::colour::{Colour, by_colour};
-use super::layout::{File, Task};
+use super::layout::{File, Numbers, Task};
 use rules::Board;
 
 // The board of an instance, with its tasks and its files, lent.
@@ -12,6 +12,24 @@ pub struct Job<'a> {
     pub tasks: &'a [Task],
     pub files: &'a [File],
     ghost in_bounds: { JobBounds board tasks.now files.now },
+}
+
+impl Numbers {
+    ghost use Rattle.std.specs.Prelude.{◌≡◌};
+    ghost use Rattle.model.specs.Layout.{JobBounds, instance_with};
+    ghost use Rattle.model.specs.Jobs.{instance_in};
+
+    // The job of these numbers on a board.
+    pub fn job(&self, board: Board) -> Job<'_>
+        requires { JobBounds board self.now.tasks.items self.now.files.items }
+        ensures { instance_in result ≡ instance_with board self.now }
+    {
+        Job {
+            board,
+            tasks: self.tasks.as_slice(),
+            files: self.files.as_slice(),
+        }
+    }
 }
 
 impl Job<'_> {

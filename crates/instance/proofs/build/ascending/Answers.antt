@@ -1,16 +1,16 @@
--- `instance::build::ascending` meets its contract: each return by the test that led there.
+-- `instance::build::ascending` meets its contract: by the last file, if there is one.
+use mathlib.Core.Path.{ap}
 use native.Mathlib.Omega.{arith}
 use Rattle.std.proofs.lemmas.Grind.{common_steps}
-use Rattle.model.specs.Layout.{job_of}
-use Rattle.instance.proofs.BuildLaws.{ascends_none, ascends-by}
+use Rattle.instance.proofs.BuildLaws.{last-none, last-some, ascends_none, ascends-by}
 use Rattle.instance.proofs.build.ascending.Goals as goal
 
-pub returns-then-shape-eq0 : goal.returns-then-shape-eq0
-returns-then-shape-eq0 c =
-    let a = c.args in ascends_none a.shape (job_of a.job.now) a.i a.j c.if-shape-eq0.true
+pub returns-in-None : goal.returns-in-None
+returns-in-None c =
+    let a = c.args in λ b. ascends_none b a.numbers.now a.i a.j (last-none a.numbers.now.files.items (rw c.as_slice.ensures.value at c.in-None.ensures.value))
 
-pub returns : goal.returns
-returns c =
+pub returns-in-Some : goal.returns-in-Some
+returns-in-Some c =
     let a = c.args in
-    let e = ascends-by a.shape (job_of a.job.now) a.i a.j c.if-shape-eq0.false _ _ c.stored_maker-maker.ensures c.stored_reader-reader.ensures in
-    rw (e, c.lt.ensures) (grind (arith, common_steps))
+    let last = last-some a.numbers.now.files.items c.in-Some.last.now (record { maker = 0; reader = 0; size = 0; move_time = 0 }) (rw c.as_slice.ensures.value at c.in-Some.ensures.value) in
+    λ b. rw (ascends-by b a.numbers.now a.i a.j last.0 c.in-Some.last.now.maker c.in-Some.last.now.reader (ap (λ f. f.maker) last.1) (ap (λ f. f.reader) last.1), c.lt.ensures) (grind (arith, common_steps))
