@@ -8,5 +8,5 @@ pub mod CountLaws
 pub mod ConvertedLaws
 -- the converted job stored task by task and file by file
 pub mod StoredLaws
--- what is kept of a schedule, run by run and move by move
+-- what is kept of a schedule
 pub mod StripLaws

@@ -1,4 +1,2 @@
--- The shape of the converted job, what is stored of that job, and what is kept of a schedule of it.
-pub mod Widened
+-- What is stored of the converted job.
 pub mod Stored
-pub mod Kept

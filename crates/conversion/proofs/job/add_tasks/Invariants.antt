@@ -5,6 +5,7 @@ use Rattle.rules.specs.Model.{Instance}
 use Rattle.rules.specs.Conversion.{added_count}
 use Rattle.conversion.specs.Stored.{Stored}
 use Rattle.conversion.proofs.job.add_tasks.Given as goal
+use lib.ListN.{length}
 
 abbrev pub invariant-loop-k : goal.invariant-loop-k
-invariant-loop-k l = (l.k ≤ l.added) × ((I : Instance) → l.added ≡ added_count I → Stored I l.target l.k 0)
+invariant-loop-k l = (l.k ≤ l.added) × (length l.target.tasks.items ≡ l.k) × ((I : Instance) → l.added ≡ added_count I → Stored I l.target l.k 0)

@@ -1,6 +1,5 @@
 use mathlib.Core.Path.{refl, sym, ◌∙◌}
 use native.Mathlib.Omega.{arith}
-use Rattle.model.specs.Layout.{job_of}
 use Rattle.model.proofs.StepLaws.{sum-none}
 use Rattle.conversion.proofs.CountLaws.{count-all}
 use Rattle.conversion.proofs.StoredLaws.{stored_at}
@@ -25,4 +24,4 @@ loop-i-preserved c =
 
 pub returns : goal.returns
 returns c =
-    stored_at c.loop-i.invariant.2 (omega arith) (count-all c.args.job.now.shape (job_of c.args.job.now.numbers.now) (omega arith) c.loop-i.invariant.1 ∙ sym c.requires.added_value)
+    stored_at c.loop-i.invariant.2 (omega arith) (count-all c.args.job.now (omega arith) c.loop-i.invariant.1 ∙ sym c.requires.added_value)

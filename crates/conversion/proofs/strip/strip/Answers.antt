@@ -1,7 +1,9 @@
 -- `strip` meets its contract.
-use Rattle.conversion.proofs.StripLaws.{kept-all}
+use native.Mathlib.Omega.{arith}
+use Rattle.conversion.proofs.StripLaws.{kept}
 use Rattle.conversion.proofs.strip.strip.Goals as goal
 
 pub returns : goal.returns
 returns c =
-    kept-all c.args.shape c.args.added c.args.from.now _ c.strip_moves.ensures
+    let a = c.args in
+    kept a.tasks a.files a.added a.from.now a.to.now _ _ (omega arith) (omega arith) c.copy_from_slice.ensures.after c.copy_from_slice-2.ensures.after
