@@ -1,8 +1,9 @@
 -- The stripper's answer, by what marking the timetable found; what is left of an accepted one can be written, with the claim that its changes give.
-use Prim.Native.Nat.{ℕ}
+use Prim.Native.Nat.{ℕ, ◌+◌}
 use mathlib.Core.List.{List}
 use mathlib.Core.Option.{Option}
-use mathlib.Core.Path.{◌≡◌, refl, subst, ◌∙◌}
+use mathlib.Core.Path.{◌≡◌, refl, sym, subst, ◌∙◌}
+use lib.ListN.{length}
 use native.Mathlib.Omega.{arith}
 use borrow.Author.Tests.{eq-eqb, ne_eqb}
 use Rattle.rules.specs.Model.{Colour, blue, red, Instance, Schedule}
@@ -21,14 +22,13 @@ use Rattle.rules.proofs.MarkerLaws.{fault-numbered}
 use Rattle.rules.proofs.ConversionLaws.{converted-formed}
 use Rattle.rules.proofs.StrippedLaws.{left-spelled, left-valid}
 use Rattle.rules.proofs.ChangeLaws.{changes_law}
-use Rattle.model.specs.declared.layout.Shape.{Shape}
-use Rattle.model.specs.declared.layout.Numbers.{Numbers}
+use Rattle.model.specs.declared.job.Job.{Job}
 use Rattle.model.specs.declared.layout.Schedule.{Schedule as StoredSchedule}
-use Rattle.model.specs.Layout.{Job, Entries, instance_from, schedule_from, instance_of, schedule_of, Bounds, Placed}
-use Rattle.model.proofs.LayoutLaws.{job-bounds, placed-complete}
+use Rattle.model.specs.Layout.{entries_of, schedule_from}
+use Rattle.model.specs.Jobs.{instance_in, schedule_of, ScheduleInBounds, AllPlaced}
+use Rattle.model.proofs.JobLaws.{tasks-in, files-in, placed-complete}
 use Rattle.model.proofs.SpelledLaws.{spelled-placed, spelled-bounds}
-use Rattle.conversion.specs.Widened.{widened}
-use Rattle.convert_text.specs.Converts.{Converted}
+use Rattle.convert_text.specs.Converts.{wide_schedule}
 use Rattle.mark_text.specs.Marked.{Marked, by_text, judges}
 use Rattle.validator.specs.Memories.{ByChanges}
 
@@ -60,14 +60,10 @@ module _ (I : Instance) (paper : List ℕ) where
       let valid = (judge-exact (converted I) WK P claim S).0 (zero-accepts (judged (converted I) P claim) z) in
       (left-spelled I P claim W WK S valid, (left-valid I P claim W WK S valid).on_time)
 
--- the same of the arrays: marked on the numbers of the converted job, and read into a schedule array
-module _ {b : Shape} {I : Instance} {r : Shape} {wide : Numbers} (x : Converted b I r wide) (paper : List ℕ) (schedule : StoredSchedule) {v : Verdict}
-    (marked : Marked (instance_of r wide) paper (schedule_of r schedule) v) where
-  abbrev P : Schedule
-  P = schedule_of (widened b (added_count I)) schedule
-
+-- the same of the numbers of the converted job, and of what was read into a schedule
+module _ {I K : Instance} {P Q : Schedule} (fit : Convertible I) (same : K ≡ converted I) (wide : Q ≡ P) (paper : List ℕ) {v : Verdict} (marked : Marked K paper Q v) where
   there : Marked (converted I) paper P v
-  there = subst (λ K. Marked K paper P v) x.is_converted (subst (λ w. Marked (instance_of r wide) paper (schedule_of w schedule) v) x.wider marked)
+  there = subst (λ K. Marked K paper P v) same (subst (λ R. Marked K paper R v) wide marked)
 
   pub left-refused : (buffer : List ℕ) → (v.number ≡ 0 → ⊥) → unwritten v.number v.place buffer ≡ strip_read I buffer (read_schedule (converted I) paper)
   left-refused buffer = refused-there I paper buffer there
@@ -76,21 +72,20 @@ module _ {b : Shape} {I : Instance} {r : Shape} {wide : Numbers} (x : Converted 
   left-made buffer = made-there I paper buffer there
 
   pub left-good : WellFormed I → v.number ≡ 0 → Spellable I (stripped I P) (true_claim I (stripped I P)) × AllOnTime I (stripped I P)
-  left-good W = valid-there I paper W x.convertible there
+  left-good W = valid-there I paper W fit there
 
 -- ---- what is left
 
 -- its true claim, by its changes
-module _ (b : Shape) (J : Job) (L : Entries) (W : WellFormed (instance_from b J)) (placed : Placed b L)
-    (on_time : AllOnTime (instance_from b J) (schedule_from b L)) where
+module _ (j : Job) (xs : StoredSchedule) (W : WellFormed (instance_in j)) (placed : AllPlaced j xs) (on_time : AllOnTime (instance_in j) (schedule_of j xs)) where
   abbrev K : Instance
-  K = instance_from b J
+  K = instance_in j
 
   abbrev Q : Schedule
-  Q = schedule_from b L
+  Q = schedule_of j xs
 
   same-peak : (c : Colour) (xs : List Change) → InTime K Q c xs → greatest_total xs ≡ peak K Q c
-  same-peak c xs x = (changes_law K W Q (placed-complete b J L placed) on_time c xs x).same_peak
+  same-peak c ys x = (changes_law K W Q (placed-complete j xs placed) on_time c ys x).same_peak
 
   pub claim-by-changes : {span blue_peak red_peak : ℕ} {over : Option ℕ} → ByChanges K Q over blue_peak red_peak → span ≡ makespan K Q
       → ◌≡◌ {A = Claim} (record { span = span; blue_peak = blue_peak; red_peak = red_peak }) (true_claim K Q)
@@ -100,14 +95,19 @@ module _ (b : Shape) (J : Job) (L : Entries) (W : WellFormed (instance_from b J)
       let reds = m.is_red_peak ∙ same-peak red m.reds m.red_in_time in
       λ k. record { span = e k; blue_peak = blues k; red_peak = reds k }
 
--- in an array of its own it is in its bounds, and on time
-module _ (b : Shape) (J : Job) (L : Entries) (P : Schedule) (e : schedule_from b L ≡ P) (W : WellFormed (instance_from b J))
-    (s : Spellable (instance_from b J) P (true_claim (instance_from b J) P)) where
-  spelled : Spellable (instance_from b J) (schedule_from b L) (true_claim (instance_from b J) P)
+-- in a schedule of its own it is in its bounds
+module _ (j : Job) (xs : StoredSchedule) (P : Schedule) (e : schedule_of j xs ≡ P) (s : Spellable (instance_in j) P (true_claim (instance_in j) P)) where
+  spelled : Spellable (instance_in j) (schedule_of j xs) (true_claim (instance_in j) P)
   spelled = rw e s
 
-  pub left-on-time : AllOnTime (instance_from b J) P → AllOnTime (instance_from b J) (schedule_from b L)
-  left-on-time on_time = rw e on_time
+  pub left-bounds : ScheduleInBounds j xs
+  left-bounds = spelled-bounds j xs _ spelled
 
-  pub left-bounds : Bounds b J L × Placed b L
-  left-bounds = (record { job = job-bounds b J W; schedule = spelled-bounds b J L _ spelled }, spelled-placed b J L _ spelled)
+  pub left-placed : AllPlaced j xs
+  left-placed = spelled-placed j xs _ spelled
+
+-- what is left of a schedule of the converted job, by the counts of the job
+pub left-is : (j : Job) (xs : StoredSchedule) (Q : Schedule) (m : ℕ) → m ≡ added_count (instance_in j)
+    → ((I : Instance) → added_count I ≡ m → Q ≡ stripped I (schedule_from (m + length j.tasks.now) (m + length j.files.now) (entries_of xs)))
+    → Q ≡ stripped (instance_in j) (wide_schedule (instance_in j) xs)
+left-is j xs Q m e h = rw (tasks-in j, files-in j) (rw e at (h (instance_in j) (sym e)))

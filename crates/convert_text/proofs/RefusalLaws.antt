@@ -1,8 +1,9 @@
--- 41 and 42, by the shape and the tasks to add.
+-- 41 and 42, by the counts of a job and the tasks to add.
 use Prim.Native.Nat.{ℕ, ◌+◌, ◌≤◌, ◌<◌}
 use mathlib.Core.List.{List}
 use mathlib.Core.Path.{◌≡◌}
 use native.Mathlib.Omega.{arith}
+use lib.ListN.{length}
 use borrow.Author.Tests.{lt-ltb, le-ltb}
 use Rattle.rules.specs.Limits.{max_tasks, max_files}
 use Rattle.rules.specs.Model.{Instance, task_count, file_count}
@@ -14,31 +15,31 @@ use Rattle.rules.specs.declared.refusal.Refusal.{Refusal}
 use Rattle.rules.specs.declared.refusal.Refusal.TheVariants.{Sheet, Timetable, Overlap, Early, OverLimit, UntrueClaim, Stuck, Short, TooManyTasks, TooManyFiles}
 use Rattle.rules.specs.Refusals.{as_fault, refusal_number}
 use Rattle.rules.proofs.MarkerLaws.{fault-numbered}
-use Rattle.model.specs.declared.layout.Shape.{Shape}
-use Rattle.model.specs.Layout.{Job, instance_from}
-use Rattle.model.proofs.LayoutLaws.{task-count, file-count}
+use Rattle.model.specs.declared.job.Job.{Job}
+use Rattle.model.specs.Jobs.{instance_in}
+use Rattle.model.proofs.JobLaws.{tasks-in, files-in}
 
-module _ (b : Shape) (J : Job) {m : ℕ} (e : m ≡ added_count (instance_from b J)) where
+module _ (j : Job) {m : ℕ} (e : m ≡ added_count (instance_in j)) where
   abbrev I : Instance
-  I = instance_from b J
+  I = instance_in j
 
-  tasks : task_count (converted I) ≡ m + b.tasks
-  tasks = omega (arith, tasks-converted I, task-count b J)
+  tasks : task_count (converted I) ≡ m + length j.tasks.now
+  tasks = omega (arith, tasks-converted I, tasks-in j)
 
-  files : file_count (converted I) ≡ m + b.files
-  files = omega (arith, files-converted I, file-count b J)
+  files : file_count (converted I) ≡ m + length j.files.now
+  files = omega (arith, files-converted I, files-in j)
 
-  pub many-tasks : max_tasks < m + b.tasks → (buffer : List ℕ) (a : Output) → unwritten 41 0 buffer ≡ if_convertible I buffer a
-  many-tasks h buffer a = rw (tasks, lt-ltb max_tasks (m + b.tasks) h)
+  pub many-tasks : max_tasks < m + length j.tasks.now → (buffer : List ℕ) (a : Output) → unwritten 41 0 buffer ≡ if_convertible I buffer a
+  many-tasks h buffer a = rw (tasks, lt-ltb max_tasks (m + length j.tasks.now) h)
 
-  pub many-files : m + b.tasks ≤ max_tasks → max_files < m + b.files → (buffer : List ℕ) (a : Output) → unwritten 42 0 buffer ≡ if_convertible I buffer a
-  many-files h l buffer a = rw (tasks, files, le-ltb max_tasks (m + b.tasks) h, lt-ltb max_files (m + b.files) l)
+  pub many-files : m + length j.tasks.now ≤ max_tasks → max_files < m + length j.files.now → (buffer : List ℕ) (a : Output) → unwritten 42 0 buffer ≡ if_convertible I buffer a
+  many-files h l buffer a = rw (tasks, files, le-ltb max_tasks (m + length j.tasks.now) h, lt-ltb max_files (m + length j.files.now) l)
 
-  pub convertible : m + b.tasks ≤ max_tasks → m + b.files ≤ max_files → Convertible I
-  convertible h l = record { tasks = omega (arith, task-count b J); files = omega (arith, file-count b J) }
+  pub convertible : m + length j.tasks.now ≤ max_tasks → m + length j.files.now ≤ max_files → Convertible I
+  convertible h l = record { tasks = omega (arith, tasks-in j); files = omega (arith, files-in j) }
 
-  pub fits : Convertible I → (m + b.tasks ≤ max_tasks) × (m + b.files ≤ max_files)
-  fits c = (omega (arith, c.tasks, task-count b J), omega (arith, c.files, file-count b J))
+  pub fits : Convertible I → (m + length j.tasks.now ≤ max_tasks) × (m + length j.files.now ≤ max_files)
+  fits c = (omega (arith, c.tasks, tasks-in j), omega (arith, c.files, files-in j))
 
 -- a job that can be converted is answered
 pub passes : (I : Instance) → Convertible I → (buffer : List ℕ) (a : Output) → if_convertible I buffer a ≡ a

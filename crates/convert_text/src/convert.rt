@@ -7,27 +7,25 @@ ghost use Rattle.model.specs.Jobs.{instance_in};
 ghost use Rattle.convert_text.specs.Answers.{as_output};
 ghost use Rattle.convert_text.specs.Converts.{Converts};
 
-use conversion::added::{added, widened};
+use conversion::added::added;
 use conversion::job::convert;
 use model::job::Job;
-use model::layout;
-use model::layout::Shape;
+use model::layout::Numbers;
 use rules::{Board, Refusal};
 
-// Writes the numbers of the converted job, and answers its shape; refused if more tasks or files than a sheet can have would result.
-pub fn convert_job(job: &Job, wide: &mut layout::Numbers) -> Result<Shape, Refusal>
-    ensures { Converts job.now.shape (instance_in job.now) result wide.new }
+// Leaves the numbers of the converted job; refused if more tasks or files than a sheet can have would result.
+pub fn convert_job(job: &Job, wide: &mut Numbers) -> Result<(), Refusal>
+    ensures { Converts job.now.board (instance_in job.now) result wide.new }
 {
-    let shape = job.shape;
-    let more = added(shape, job.numbers);
-    if Board::MAX_TASKS < more + shape.tasks {
+    let more = added(job.tasks);
+    if Board::MAX_TASKS < more + job.tasks.len() {
         return Err(Refusal::TooManyTasks);
     }
-    if Board::MAX_FILES < more + shape.files {
+    if Board::MAX_FILES < more + job.files.len() {
         return Err(Refusal::TooManyFiles);
     }
     convert(job, more, wide);
-    Ok(widened(shape, more))
+    Ok(())
 }
 
 // Writes a job's sheet, if the buffer is long enough, and answers how many bytes that takes.
@@ -46,8 +44,7 @@ pub fn convert_instance(job: &Job, out: &mut [u8]) -> Result<usize, Refusal>
     requires { WellFormed (instance_in job.now) }
     ensures { as_output result out.new ≡ convert_on (instance_in job.now) out.old }
 {
-    let mut wide = layout::Numbers::new();
-    let shape = convert_job(job, &mut wide)?;
-    let numbers = &wide;
-    write_sheet(&Job { shape, numbers }, out)
+    let mut wide = Numbers::new();
+    convert_job(job, &mut wide)?;
+    write_sheet(&wide.job(job.board), out)
 }

@@ -2,14 +2,13 @@
 ghost use Rattle.std.specs.Prelude.{◌≡◌};
 ghost use Rattle.rules.specs.Promises.{WellFormed, Spellable};
 ghost use Rattle.rules.specs.Validity.{AllOnTime, true_claim};
-ghost use Rattle.rules.specs.Conversion.{added_count, stripped, stripped_text, output};
+ghost use Rattle.rules.specs.Conversion.{stripped, stripped_text, output};
 ghost use Rattle.rules.specs.ConversionPromises.{Convertible};
 ghost use Rattle.rules.specs.Stripping.{strip_on};
 ghost use Rattle.model.specs.Claims.{as_claim};
-ghost use Rattle.model.specs.Jobs.{instance_in, schedule_in};
-ghost use Rattle.model.specs.Layout.{entries_of, schedule_of, Placed};
-ghost use Rattle.conversion.specs.Widened.{widened};
+ghost use Rattle.model.specs.Jobs.{instance_in, schedule_in, AllPlaced};
 ghost use Rattle.convert_text.specs.Answers.{as_output};
+ghost use Rattle.convert_text.specs.Converts.{wide_schedule};
 
 use crate::convert::convert_job;
 use conversion::added::added;
@@ -17,7 +16,7 @@ use conversion::strip::strip;
 use mark_text::mark_into;
 use model::claim::Claim;
 use model::job::Job;
-use model::layout;
+use model::layout::{Numbers, Schedule};
 use model::timetable::Timetable;
 use plan_text::write_plan;
 use rules::Refusal;
@@ -26,7 +25,7 @@ use validator::memory::walk_memories;
 // What a timetable free of 16 has to claim: its makespan, and its peaks as the marker finds them.
 fn true_claim(t: &Timetable) -> Claim
     requires well_formed { WellFormed (instance_in t.now.job) }
-    requires placed { Placed t.now.job.shape (entries_of t.now.schedule.now) }
+    requires placed { AllPlaced t.now.job t.now.schedule.now }
     requires all_on_time { AllOnTime (instance_in t.now.job) (schedule_in t.now) }
     ensures { as_claim result ≡ true_claim (instance_in t.now.job) (schedule_in t.now) }
 {
@@ -39,21 +38,20 @@ fn true_claim(t: &Timetable) -> Claim
 }
 
 // Writes what is left of a schedule of the converted job, with its true claim, if the buffer is long enough.
-fn write_left(job: &Job, schedule: &layout::Schedule, out: &mut [u8]) -> Result<usize, Refusal>
+fn write_left(job: &Job, schedule: &Schedule, out: &mut [u8]) -> Result<usize, Refusal>
     requires well_formed { WellFormed (instance_in job.now) }
     requires convertible { Convertible (instance_in job.now) }
-    requires spellable { Spellable (instance_in job.now)
-        (stripped (instance_in job.now) (schedule_of (widened job.now.shape (added_count (instance_in job.now))) schedule.now))
-        (true_claim (instance_in job.now) (stripped (instance_in job.now) (schedule_of (widened job.now.shape (added_count (instance_in job.now))) schedule.now))) }
-    requires all_on_time { AllOnTime (instance_in job.now)
-        (stripped (instance_in job.now) (schedule_of (widened job.now.shape (added_count (instance_in job.now))) schedule.now)) }
+    requires spellable { let P = stripped (instance_in job.now) (wide_schedule (instance_in job.now) schedule.now) in
+        Spellable (instance_in job.now) P (true_claim (instance_in job.now) P) }
+    requires all_on_time { AllOnTime (instance_in job.now) (stripped (instance_in job.now) (wide_schedule (instance_in job.now) schedule.now)) }
     ensures { as_output result out.new ≡
-        output (stripped_text (instance_in job.now) (schedule_of (widened job.now.shape (added_count (instance_in job.now))) schedule.now)) out.old }
+        output (stripped_text (instance_in job.now) (wide_schedule (instance_in job.now) schedule.now)) out.old }
 {
-    let mut left = layout::Schedule::new();
+    let mut left = Schedule::new();
     strip(
-        job.shape,
-        added(job.shape, job.numbers),
+        job.tasks.len(),
+        job.files.len(),
+        added(job.tasks),
         schedule,
         &mut left,
     );
@@ -69,10 +67,9 @@ pub fn strip_paper(job: &Job, paper: &[u8], out: &mut [u8]) -> Result<usize, Ref
     requires { WellFormed (instance_in job.now) }
     ensures { as_output result out.new ≡ strip_on (instance_in job.now) paper.now out.old }
 {
-    let mut wide = layout::Numbers::new();
-    let shape = convert_job(job, &mut wide)?;
-    let numbers = &wide;
-    let mut schedule = layout::Schedule::new();
-    mark_into(&Job { shape, numbers }, paper, &mut schedule)?;
+    let mut wide = Numbers::new();
+    convert_job(job, &mut wide)?;
+    let mut schedule = Schedule::new();
+    mark_into(&wide.job(job.board), paper, &mut schedule)?;
     write_left(job, &schedule, out)
 }

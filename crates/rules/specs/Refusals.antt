@@ -1,4 +1,4 @@
--- What the source's `Fault` and `Refusal` say in the words of the rules: document 01's number and place for each case.
+-- What the source's `Fault` and `Refusal` say in the words of the rules: the number and the place of each case, document 01's, and 41 and 42 of Order 7.
 use Rattle.std.specs.Prelude.{ℕ}
 use Rattle.rules.specs.Text as Text
 use Rattle.rules.specs.declared.refusal.Fault.{Fault}

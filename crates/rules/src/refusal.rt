@@ -1,4 +1,4 @@
-// What can be wrong with a text or a call, with document 01's number and place for each.
+// What can be wrong with a text or a call, with the number and the place of each: document 01's, and 41 and 42 of Order 7.
 ghost use Rattle.std.specs.Prelude.{◌≡◌};
 ghost use Rattle.rules.specs.Text.{in_sheet, fault_number};
 ghost use Rattle.rules.specs.Refusals.{as_fault, refusal_number, refusal_place};
@@ -58,6 +58,7 @@ pub enum Refusal {
 }
 
 impl Refusal {
+    // Its number in an answer.
     pub fn number(self) -> u64
         ensures { result ≡ refusal_number self }
     {

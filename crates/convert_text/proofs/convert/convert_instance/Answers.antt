@@ -7,11 +7,11 @@ use Rattle.convert_text.proofs.RefusalLaws.{passes}
 use Rattle.convert_text.proofs.SheetLaws.{wide_bounds}
 use Rattle.convert_text.proofs.convert.convert_instance.Goals as goal
 
-pub invariant_of-write_sheet : goal.invariant_of-write_sheet
-invariant_of-write_sheet c = record { in_bounds = wide_bounds c.in_ok-shape.ensures c.requires }
+pub job-requires : goal.job-requires
+job-requires c = wide_bounds c.in_ok-convert_job.ensures c.requires
 
 pub returns : goal.returns
 returns c =
     let I = instance_in c.args.job.now in
-    let x = c.in_ok-shape.ensures in
-    c.write_sheet.ensures ∙ ap (λ K. output (instance_text K) c.args.out.now) x.is_converted ∙ sym (passes I x.convertible c.args.out.now _)
+    let x = c.in_ok-convert_job.ensures in
+    c.write_sheet.ensures ∙ ap (λ K. output (instance_text K) c.args.out.now) (c.job.ensures ∙ x.is_converted) ∙ sym (passes I x.convertible c.args.out.now _)

@@ -8,15 +8,15 @@ use Rattle.convert_text.proofs.LeftLaws.{left-refused, left-made, left-good}
 use Rattle.convert_text.proofs.strip.strip_paper.Goals as goal
 
 pub invariant_of-mark_into : goal.invariant_of-mark_into
-invariant_of-mark_into c = record { in_bounds = wide_bounds c.in_ok-shape.ensures c.requires }
+invariant_of-mark_into c = record { in_bounds = wide_bounds c.in_ok-convert_job.ensures c.requires }
 
 pub mark_into-requires : goal.mark_into-requires
-mark_into-requires c = wide-formed c.in_ok-shape.ensures c.requires
+mark_into-requires c = wide-formed c.in_ok-convert_job.ensures c.requires
 
 pub returns-in_err-mark_into : goal.returns-in_err-mark_into
 returns-in_err-mark_into c =
     let I = instance_in c.args.job.now in
-    let x = c.in_ok-shape.ensures in
+    let x = c.in_ok-convert_job.ensures in
     let old = c.args.out.now in
     let p = err_from_is_err_and c.from_residual-in_err-mark_into.result c.from_residual-in_err-mark_into.ensures.1 in
     rw (p.1, p.2)
@@ -24,13 +24,13 @@ returns-in_err-mark_into c =
     ∙ sym (passes I x.convertible old _))
 
 pub write_left-requires-clause-spellable : goal.write_left-requires-clause-spellable
-write_left-requires-clause-spellable c = (left-good c.in_ok-shape.ensures c.args.paper.now c.mark_into.new.schedule c.in_ok-mark_into.ensures c.requires refl).0
+write_left-requires-clause-spellable c = (left-good c.in_ok-convert_job.ensures c.args.paper.now c.mark_into.new.schedule c.in_ok-mark_into.ensures c.requires refl).0
 
 pub write_left-requires-clause-all_on_time : goal.write_left-requires-clause-all_on_time
-write_left-requires-clause-all_on_time c = (left-good c.in_ok-shape.ensures c.args.paper.now c.mark_into.new.schedule c.in_ok-mark_into.ensures c.requires refl).1
+write_left-requires-clause-all_on_time c = (left-good c.in_ok-convert_job.ensures c.args.paper.now c.mark_into.new.schedule c.in_ok-mark_into.ensures c.requires refl).1
 
 pub returns : goal.returns
 returns c =
     let I = instance_in c.args.job.now in
-    let x = c.in_ok-shape.ensures in
+    let x = c.in_ok-convert_job.ensures in
     c.write_left.ensures ∙ left-made x c.args.paper.now c.mark_into.new.schedule c.in_ok-mark_into.ensures c.args.out.now refl ∙ sym (passes I x.convertible c.args.out.now _)

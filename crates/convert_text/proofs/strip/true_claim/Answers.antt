@@ -1,10 +1,9 @@
 -- `true_claim` meets its contract.
-use Rattle.model.specs.Layout.{job_of, entries_of}
 use Rattle.convert_text.proofs.LeftLaws.{claim-by-changes}
 use Rattle.convert_text.proofs.strip.true_claim.Goals as goal
 
 pub returns : goal.returns
 returns c =
     let t = c.args.t.now in
-    claim-by-changes t.job.shape (job_of t.job.numbers.now) (entries_of t.schedule.now) c.requires.well_formed c.requires.placed c.requires.all_on_time
+    claim-by-changes t.job t.schedule.now c.requires.well_formed c.requires.placed c.requires.all_on_time
     c.walk_memories-found.ensures c.makespan.ensures.value
