@@ -1,3 +1,4 @@
 -- What the contracts of this program cite.
 pub mod Columns
 pub mod Decimal
+pub mod Lines

@@ -2,112 +2,119 @@
 ghost use Rattle.std.specs.Prelude.{◌≡◌, ◌+◌, ◌*◌, ◌≤◌, max, length};
 ghost use Rattle.rules.specs.Text.{decimal};
 ghost use Rattle.framewatch.specs.Columns.{width, most_digits};
+ghost use Rattle.framewatch.specs.Lines.{used};
 
+use arrayvec::ArrayVec;
 use std::io::Result;
 
 pub const WIDTH: usize = 80;
 
-// The columns used so far, spaces behind them, and room for LF behind the last; and whether all lines before this one were written, or why
-// one was not.
-#[derive(Clone, Copy)]
+// The columns so far; and whether all lines before this one were written, or why one was not.
+#[derive(Drop)]
 pub struct Line {
-    pub bytes: [u8; WIDTH + 1],
-    pub used: usize,
+    pub bytes: ArrayVec<u8, WIDTH>,
     pub ok: Result<()>,
 }
 
 impl Line {
     pub fn new() -> Line
-        ensures { result.used ≡ 0 }
+        ensures { used result ≡ 0 }
     {
-        let bytes = [b' '; WIDTH + 1];
         Line {
-            bytes,
-            used: 0,
+            bytes: ArrayVec::new(),
             ok: Ok(()),
         }
     }
 
-    // With a text behind it.
-    pub fn text(self, text: &[u8]) -> Line
-        requires { self.used + length text.now ≤ width }
-        ensures { result.used ≡ self.used + length text.now }
+    // How many columns are used.
+    pub fn used(&self) -> usize
+        ensures { result ≡ used self.now }
     {
-        let mut line = self;
-        let at = line.used;
-        let end = at + text.len();
-        line.bytes[at..end].copy_from_slice(text);
-        line.used = end;
-        line
+        self.bytes.len()
+    }
+
+    // With bytes behind it, for which it has room.
+    fn bytes(mut self, bytes: &[u8]) -> Line
+        requires { used self + length bytes.now ≤ width }
+        ensures { used result ≡ used self + length bytes.now }
+    {
+        let _ = self.bytes.try_extend_from_slice(bytes);
+        self
+    }
+
+    // With a text behind it.
+    pub fn text(self, text: &str) -> Line
+        requires { used self + length text.now ≤ width }
+        ensures { used result ≡ used self + length text.now }
+    {
+        self.bytes(text.as_bytes())
     }
 
     // With a number behind it.
     pub fn number(self, n: u64) -> Line
-        requires { self.used + most_digits ≤ width }
-        ensures used_value { result.used ≡ self.used + length (decimal n) }
+        requires { used self + most_digits ≤ width }
+        ensures used_value { used result ≡ used self + length (decimal n) }
         ensures n_len_bound { length (decimal n) ≤ most_digits }
     {
         let mut digits = [0u8; 20];
         let k = text::write_number(&mut digits, n);
-        self.text(&digits[..k])
+        self.bytes(&digits[..k])
     }
 
     // With spaces behind it, up to a column.
-    pub fn to_column(self, column: usize) -> Line
-        ensures { result.used ≡ max self.used column }
+    fn to_column(mut self, column: usize) -> Line
+        requires { column ≤ width }
+        ensures { used result ≡ max (used self) column }
     {
-        let mut line = self;
-        if line.used < column {
-            line.used = column;
+        for _ in self.bytes.len()..column {
+            self.bytes.push(b' ');
         }
-        line
+        self
     }
 
     // With a number behind it, in so many columns: spaces stand before the digits.
     pub fn right(self, n: u64, columns: usize) -> Line
-        requires { (self.used + 2 * most_digits ≤ width) × (columns ≤ most_digits) }
-        ensures used_value { result.used ≡ self.used + max columns (length (decimal n)) }
+        requires { (used self + 2 * most_digits ≤ width) × (columns ≤ most_digits) }
+        ensures used_value { used result ≡ used self + max columns (length (decimal n)) }
         ensures n_len_bound { length (decimal n) ≤ most_digits }
     {
         let k = text::number_size(n);
         if columns <= k {
             return self.number(n);
         }
-        let used = self.used;
-        self.to_column(used + (columns - k)).number(n)
+        let column = self.used() + (columns - k);
+        self.to_column(column).number(n)
     }
 
     // Writes the line, if all before it were written; the next one is empty.
     pub fn end(self, rt: &impl Print) -> Line
-        requires { self.used ≤ width }
-        ensures { result.used ≡ 0 }
+        ensures { used result ≡ 0 }
     {
-        let n = self.used;
-        let mut bytes = self.bytes;
-        bytes[n] = b'\n';
-        let ok = match self.ok {
-            Ok(()) => rt.write_all(&bytes[..n + 1]),
+        let mut next = Line::new();
+        next.ok = match self.ok {
+            Ok(()) => write_line(rt, &self.bytes),
             Err(e) => Err(e),
         };
-        let mut next = Line::new();
-        next.ok = ok;
         next
     }
 
     // With an item of a list at a column, or, where the line is past it or the item does not fit there, on a line of its own from
     // column `hang` on.
     pub fn item(self, rt: &impl Print, item: Line, column: usize, hang: usize) -> Line
-        requires used_le_width { self.used ≤ width }
-        requires used_bound { hang + item.used ≤ width }
-        ensures { result.used ≤ width }
+        requires { hang + used item ≤ width }
     {
-        let n = item.used;
-        let bytes = item.bytes;
-        if self.used <= column {
+        let n = item.used();
+        if self.used() <= column {
             if column <= WIDTH - n {
-                return self.to_column(column).text(&bytes[..n]);
+                return self.to_column(column).bytes(&item.bytes);
             }
         }
-        self.end(rt).to_column(hang).text(&bytes[..n])
+        self.end(rt).to_column(hang).bytes(&item.bytes)
     }
+}
+
+// A line and its end.
+fn write_line(rt: &impl Print, line: &[u8]) -> Result<()> {
+    rt.write_all(line)?;
+    rt.write_all(b"\n")
 }

@@ -8,6 +8,7 @@ ghost use Rattle.model.specs.Colours.{as_colour};
 ghost use Rattle.model.specs.Jobs.{instance_in};
 ghost use Rattle.model.specs.Layout.{most_files};
 ghost use Rattle.framewatch.specs.Columns.{width, row_column, limit_columns, file_columns};
+ghost use Rattle.framewatch.specs.Lines.{used};
 
 use crate::line::Line;
 use model::colour::{Colour, by_colour};
@@ -39,16 +40,16 @@ fn total(job: &Job, contents: &[u64; Board::MAX_FILES], colour: Colour) -> u64
 // A file: maker, reader and size, and whether it is being moved.
 fn file(maker: u64, reader: u64, size: u64, moving: bool) -> Line
     requires { (maker ≤ max_tasks) × (reader ≤ max_tasks) × (size ≤ file_sizes.most) }
-    ensures { result.used ≤ file_columns }
+    ensures { used result ≤ file_columns }
 {
     let line = Line::new()
-        .text(b"(")
+        .text("(")
         .number(maker)
-        .text(b" ")
+        .text(" ")
         .number(reader)
-        .text(b") ")
+        .text(") ")
         .number(size);
-    if moving { line.text(b" moving") } else { line }
+    if moving { line.text(" moving") } else { line }
 }
 
 // The line with file k behind it, if the memory of the colour holds it. What both memories hold is being moved, and in a step that was
@@ -62,16 +63,14 @@ fn with_file(
     held: u64,
     hang: usize,
 ) -> Line
-    requires used_le_width { line.used ≤ width }
     requires k_lt_files { k < job.now.shape.files }
     requires file_columns_bound { hang + file_columns ≤ width }
-    ensures { result.used ≤ width }
 {
     if holds(colour, held) {
         let maker = job.maker(k) as u64 + 1;
         let reader = job.reader(k) as u64 + 1;
         let shown = file(maker, reader, job.size(k), held == 3);
-        let column = line.used + 3;
+        let column = line.used() + 3;
         return line.item(rt, shown, column, hang);
     }
     line
@@ -86,9 +85,7 @@ fn files(
     colour: Colour,
     hang: usize,
 ) -> Line
-    requires used_le_width { line.used ≤ width }
     requires file_columns_bound { hang + file_columns ≤ width }
-    ensures { result.used ≤ width }
 {
     let mut row = line;
     for k in 0..job.shape.files {
@@ -112,8 +109,7 @@ pub fn show(
     contents: &[u64; Board::MAX_FILES],
     colour: Colour,
 ) -> Line
-    requires { line.used ≤ row_column }
-    ensures { result.used ≤ width }
+    requires { used line ≤ row_column }
 {
     let columns = limit_columns(job);
     let held = total(job, contents, colour);
@@ -122,10 +118,7 @@ pub fn show(
         job.shape.board.blue.limit,
         job.shape.board.red.limit,
     );
-    let row = line
-        .right(held, columns)
-        .text(b" of ")
-        .right(limit, columns);
-    let hang = row.used + 3;
+    let row = line.right(held, columns).text(" of ").right(limit, columns);
+    let hang = row.used() + 3;
     files(rt, row, job, contents, colour, hang)
 }

@@ -1,7 +1,8 @@
 // One step: its number and tick, and what each colour's processors run and its memory holds.
 ghost use Rattle.std.specs.Prelude.{◌≡◌, ◌+◌, ◌*◌, ◌≤◌};
 ghost use Rattle.rules.specs.Limits.{all_processors};
-ghost use Rattle.framewatch.specs.Columns.{width, most_digits, row_column};
+ghost use Rattle.framewatch.specs.Columns.{most_digits, row_column};
+ghost use Rattle.framewatch.specs.Lines.{used};
 
 use crate::line::Line;
 use crate::memory;
@@ -17,13 +18,13 @@ const CELL: usize = 15;
 
 // A processor and its task, 0 for none.
 fn processor(p: u64, task: u64) -> Line
-    ensures { result.used ≤ 2 * most_digits + 7 }
+    ensures { used result ≤ 2 * most_digits + 7 }
 {
     let line = Line::new().number(p);
     if task == 0 {
-        return line.text(b": idle");
+        return line.text(": idle");
     }
-    line.text(b": task ").number(task)
+    line.text(": task ").number(task)
 }
 
 // What `count` processors run, those behind the first `before`: four to a line.
@@ -34,9 +35,7 @@ fn processors(
     before: usize,
     count: usize,
 ) -> Line
-    requires used_le_width { line.used ≤ width }
     requires count_bound { before + count ≤ all_processors }
-    ensures { result.used ≤ width }
 {
     let mut row = line;
     for p in 0..count {
@@ -48,19 +47,19 @@ fn processors(
 
 // The colour's name, before its processors.
 fn label(line: Line, colour: Colour) -> Line
-    requires { line.used ≡ 0 }
-    ensures { result.used ≡ row_column }
+    requires { used line ≡ 0 }
+    ensures { used result ≡ row_column }
 {
     match colour {
-        Colour::Blue => line.text(b"  blue  processor  "),
-        Colour::Red => line.text(b"  red   processor  "),
+        Colour::Blue => line.text("  blue  processor  "),
+        Colour::Red => line.text("  red   processor  "),
     }
 }
 
 // One colour: what its processors run and what its memory holds.
 fn side(rt: &impl Print, line: Line, job: &Job, state: Simulation, colour: Colour) -> Line
-    requires { line.used ≡ 0 }
-    ensures { result.used ≡ 0 }
+    requires { used line ≡ 0 }
+    ensures { used result ≡ 0 }
 {
     let running = state.running;
     let contents = state.contents;
@@ -68,19 +67,19 @@ fn side(rt: &impl Print, line: Line, job: &Job, state: Simulation, colour: Colou
     let before = by_colour(colour, 0, blue) as usize;
     let count = by_colour(colour, blue, job.shape.board.red.processors) as usize;
     let runs = processors(rt, label(line, colour), &running, before, count).end(rt);
-    let row = runs.text(b"        memory     ");
+    let row = runs.text("        memory     ");
     memory::show(rt, row, job, &contents, colour).end(rt)
 }
 
 // A step: its number and tick, and what each colour does.
 pub fn show(rt: &impl Print, line: Line, job: &Job, state: Simulation) -> Line
-    requires { line.used ≡ 0 }
-    ensures { result.used ≡ 0 }
+    requires { used line ≡ 0 }
+    ensures { used result ≡ 0 }
 {
     let head = line
-        .text(b"step ")
+        .text("step ")
         .number(state.made)
-        .text(b", tick ")
+        .text(", tick ")
         .number(state.time)
         .end(rt);
     let blue = side(rt, head, job, state, Colour::Blue);

@@ -3,6 +3,7 @@ ghost use Rattle.std.specs.Prelude.{◌≡◌, ◌≤◌, ltb};
 ghost use Rattle.rules.specs.Count.{any_below};
 ghost use Rattle.rules.specs.Model.{work_at};
 ghost use Rattle.model.specs.Jobs.{instance_in};
+ghost use Rattle.framewatch.specs.Lines.{used};
 
 use crate::line::Line;
 use crate::step;
@@ -15,11 +16,11 @@ use std::io::Result;
 // The counts of the job, and how memory and files are shown. Fails where it cannot be written.
 fn print_heading(rt: &impl Print, job: &Job) -> Result<()> {
     Line::new()
-        .text(b"tasks: ")
+        .text("tasks: ")
         .number(job.shape.tasks as u64)
-        .text(b", files: ")
+        .text(", files: ")
         .number(job.shape.files as u64)
-        .text(b"; memory in blocks, each file as (maker reader) size")
+        .text("; memory in blocks, each file as (maker reader) size")
         .end(rt)
         .ok
 }
@@ -28,19 +29,14 @@ fn print_heading(rt: &impl Print, job: &Job) -> Result<()> {
 fn has_work(job: &Job) -> bool
     ensures { result ≡ any_below job.now.shape.tasks (λ i. ltb 0 (work_at (instance_in job.now) i)) }
 {
-    for i in 0..job.shape.tasks {
-        if 0 < job.work(i) {
-            return true;
-        }
-    }
-    false
+    (0..job.shape.tasks).any(|i| 0 < job.work(i))
 }
 
 // That working memory is not shown, if a task has it. Fails where it cannot be written.
 fn print_note(rt: &impl Print, job: &Job) -> Result<()> {
     if has_work(job) {
         return Line::new()
-            .text(b"working memory is not shown, but it counts for the limits")
+            .text("working memory is not shown, but it counts for the limits")
             .end(rt)
             .ok;
     }
@@ -49,13 +45,13 @@ fn print_note(rt: &impl Print, job: &Job) -> Result<()> {
 
 // Why a fault stops it.
 fn reason(fault: TickFault) -> Line
-    ensures { result.used ≤ 52 }
+    ensures { used result ≤ 52 }
 {
     let line = Line::new();
     match fault {
-        TickFault::Overlap => line.text(b" by 15: two runs on one processor share an instant"),
-        TickFault::Early => line.text(b" by 16: a file moves or is read before it is there"),
-        TickFault::OverLimit => line.text(b" by 17: a memory would hold more than its limit"),
+        TickFault::Overlap => line.text(" by 15: two runs on one processor share an instant"),
+        TickFault::Early => line.text(" by 16: a file moves or is read before it is there"),
+        TickFault::OverLimit => line.text(" by 17: a memory would hold more than its limit"),
     }
 }
 
@@ -64,17 +60,17 @@ fn print_end(rt: &impl Print, progress: Progress, made: u64) -> Result<()> {
     let line = Line::new().end(rt);
     match progress {
         Progress::StepsLeft => line
-            .text(b"steps made: ")
+            .text("steps made: ")
             .number(made)
-            .text(b"; more are left")
+            .text("; more are left")
             .end(rt)
             .ok,
         Progress::Stopped { fault, tick } => {
-            let stop = line.text(b"stopped at tick ").number(tick);
-            let column = stop.used;
+            let stop = line.text("stopped at tick ").number(tick);
+            let column = stop.used();
             stop.item(rt, reason(fault), column, 2).end(rt).ok
         }
-        Progress::Ended { span } => line.text(b"ended: the span is ").number(span).end(rt).ok,
+        Progress::Ended { span } => line.text("ended: the span is ").number(span).end(rt).ok,
     }
 }
 

@@ -4,8 +4,10 @@
 pub mod SoonestLaws
 -- the next turn
 pub mod TurnLaws
--- a loop that looks for an index
+-- a test of the indices below a bound
 pub mod AnyLaws
+-- a fold over the indices below a bound
+pub mod FoldLaws
 -- the fault of a tick
 pub mod FaultLaws
 -- the state of a tick

@@ -90,3 +90,7 @@ module _ (p : ℕ → ℕ → Bool) (from : ℕ) where
   pub soonest-next : (n : ℕ) (a b : Option ℕ) → Soonest (λ u. any_below n (p u)) from a → Soonest (λ u. p u n) from b
       → Soonest (λ u. any_below (n + 1) (p u)) from (sooner a b)
   soonest-next n a b x y = soonest-same (λ u. any-more (p u) n) from (sooner a b) (soonest-or (λ u. any_below n (p u)) (λ u. p u n) from a b x y)
+
+  pub soonest-turn : (n : ℕ) (a b r : Option ℕ) → Soonest (λ u. any_below n (p u)) from a → Soonest (λ u. p u n) from r → b ≡ sooner a r
+      → Soonest (λ u. any_below (n + 1) (p u)) from b
+  soonest-turn n a b r x y e = rw e (soonest-next n a r x y)

@@ -1,11 +1,13 @@
 -- What the next step does, and the walk's answer by it: the laws of the walk in `rules`, for what the code keeps.
-use Prim.Native.Nat.{ℕ, zero, suc, ◌+◌, ◌≤◌, ◌<◌}
+use Prim.Native.Nat.{ℕ, zero, suc, ◌+◌, ◌≤◌}
 use mathlib.Core.List.{List}
 use mathlib.Core.Logic.{◌≢◌}
 use mathlib.Core.Path.{◌≡◌, refl, sym, ◌∙◌, ap}
 use native.Mathlib.Numerals.{add-one}
 use native.Mathlib.Omega.{arith}
-use borrow.Author.Tests.{ltb-true, lt-ltb}
+use lib.Dec.{ltb}
+use borrow.Author.Tests.{ltb-true, ltb-false, lt-ltb}
+use mathlib.Core.Bool.{Bool, true, false}
 use Rattle.rules.specs.Model.{Instance, Schedule}
 use Rattle.rules.specs.Validity.{Complete, makespan}
 use Rattle.rules.specs.Promises.{WellFormed}
@@ -17,7 +19,7 @@ use Rattle.simulator.specs.declared.answer.TickFault.{TickFault}
 use Rattle.simulator.specs.declared.answer.TickFault.TheVariants.{Overlap, Early, OverLimit}
 use Rattle.simulator.specs.Answers.{fault_number}
 use Rattle.simulator.specs.Turns.{SoonestAt}
-use Rattle.simulator.specs.Walks.{NextTurn, NoTurn, Ends, at_fault, at_end, Reaches, goes_on, is_over, state_by}
+use Rattle.simulator.specs.Walks.{NextTurn, NoTurn, Ends, at_fault, at_end, not_wanted, state_by}
 
 -- ---- what the next step does
 
@@ -28,22 +30,19 @@ module _ (I : Instance) (P : Schedule) {from : ℕ} where
     bound = s.within;
   }
 
-  module _ (none : NoTurn I P from) {span : ℕ} (z : span ≡ makespan I P) where
-    pub ahead-end : Ends I P from (ended span)
-    ahead-end = at_end none z
+  module _ {wanted : Bool} where
+    pub ahead-end : NoTurn I P from → {span : ℕ} → span ≡ makespan I P → Ends I P from wanted (ended span)
+    ahead-end none z = at_end none z
 
-    pub reaches_end : Reaches I P from (ended span)
-    reaches_end = is_over none z
+    module _ (t : ℕ) (s : SoonestAt (is_turn I P) from t) where
+      pub ahead-left : wanted ≡ false → Ends I P from wanted steps_left
+      ahead-left w = not_wanted t w (next-turn t s)
 
-  module _ (t : ℕ) (s : SoonestAt (is_turn I P) from t) where
-    pub reaches-turn : Reaches I P from steps_left
-    reaches-turn = goes_on t (next-turn t s)
+      pub ahead-onto : wanted ≡ true → {f : ℕ} → f ≡ fault_at I P t → f ≡ 0 → (wanted ≡ true) × NextTurn I P from t × (fault_at I P t ≡ 0)
+      ahead-onto w e z = (w, next-turn t s, sym e ∙ z)
 
-    pub ahead-onto : {f : ℕ} → f ≡ fault_at I P t → f ≡ 0 → NextTurn I P from t × (fault_at I P t ≡ 0)
-    ahead-onto e z = (next-turn t s, sym e ∙ z)
-
-    pub ahead-fault : {f : ℕ} → f ≡ fault_at I P t → 1 ≤ f → Ends I P from (stopped f t)
-    ahead-fault e d = at_fault t (next-turn t s) e d
+      pub ahead-fault : wanted ≡ true → {f : ℕ} → f ≡ fault_at I P t → 1 ≤ f → Ends I P from wanted (stopped f t)
+      ahead-fault w e d = at_fault t w (next-turn t s) e d
 
 -- a fault has a number
 pub some-fault : (f : TickFault) → 1 ≤ fault_number f
@@ -80,26 +79,18 @@ module _ (I : Instance) (W : WellFormed I) (P : Schedule) (C : Complete I P) {ma
   told : {q p : Progress} → q ≡ p → answer q ≡ record { progress = p; made = made; state = state_after I P made }
   told g = λ i. record { progress = g i; made = made; state = r.state i }
 
-  over : {span : ℕ} (wanted : ℕ) → made ≤ wanted → NoTurn I P from → span ≡ makespan I P → answer (ended span) ≡ watch I P wanted
-  over wanted l none z = told (ap ended z) ∙ sym (walk_ends I W P C from made r.walked wanted none l)
+  ends : {q : Progress} (wanted : ℕ) → made ≤ wanted → Ends I P from (ltb made wanted) q → answer q ≡ watch I P wanted
+  ends wanted l (at_fault {n} t w x e h) =
+      told (ap (λ m. stopped m t) e)
+      ∙ sym (walk-stops I W P C from made r.walked t wanted x.first (is-fault I P t n e h) (ltb-true made wanted w))
+  ends wanted l (at_end none z) = told (ap ended z) ∙ sym (walk_ends I W P C from made r.walked wanted none l)
+  ends wanted l (not_wanted t w x) =
+      let all : made ≡ wanted = omega (arith, ltb-false made wanted w) in
+      told refl ∙ sym (walk-left I W P C from made r.walked t x.first) ∙ ap (watch I P) all
 
-  -- the next step is wanted and not made
-  barred : {q : Progress} (wanted : ℕ) → made < wanted → Ends I P from q → answer q ≡ watch I P wanted
-  barred wanted l (at_fault {n} t x e h) =
-      told (ap (λ m. stopped m t) e) ∙ sym (walk-stops I W P C from made r.walked t wanted x.first (is-fault I P t n e h) l)
-  barred wanted l (at_end none z) = over wanted (omega arith) none z
-
-  -- all steps wanted are made
-  all_made : {q : Progress} → Reaches I P from q → answer q ≡ watch I P made
-  all_made (goes_on t x) = told refl ∙ sym (walk-left I W P C from made r.walked t x.first)
-  all_made (is_over none z) = over made (omega arith) none z
-
-  module _ {q : Progress} {a : Simulation} (e : a ≡ record { progress = q; made = made; state = state_by I P made time }) where
-    pub walk-barred : (wanted : ℕ) → made < wanted → Ends I P from q → a ≡ watch I P wanted
-    walk-barred wanted l x = e ∙ barred wanted l x
-
-    pub walk-reaches : (wanted : ℕ) → made ≡ wanted → Reaches I P from q → a ≡ watch I P wanted
-    walk-reaches wanted g x = e ∙ all_made x ∙ ap (watch I P) g
+  pub walk-over : {q : Progress} {a : Simulation} → a ≡ record { progress = q; made = made; state = state_by I P made time } → (wanted : ℕ) → made ≤ wanted
+      → Ends I P from (ltb made wanted) q → a ≡ watch I P wanted
+  walk-over e wanted l x = e ∙ ends wanted l x
 
 -- ---- the answer's state
 

@@ -1,5 +1,7 @@
--- What the next step does, and how a walk ends.
-use Rattle.std.specs.Prelude.{ℕ, zero, suc, ◌≤◌, true, ◌≡◌, Result, MatchResult}
+-- What comes next in a walk: a step, or its end.
+use Rattle.std.specs.Prelude.{ℕ, zero, suc, ◌≤◌, Bool, true, false, ◌≡◌}
+use Rattle.std.specs.declared.ops.ControlFlow.{ControlFlow}
+use Rattle.std.specs.ControlFlow.{MatchControlFlow}
 use Rattle.rules.specs.Model.{Instance, Schedule}
 use Rattle.rules.specs.Validity.{makespan}
 use Rattle.rules.specs.Promises.{First}
@@ -17,19 +19,16 @@ pub record NextTurn (I : Instance) (P : Schedule) (from t : ℕ) : Type 0 where
 abbrev pub NoTurn : Instance → Schedule → ℕ → Type 0
 NoTurn I P from = (u : ℕ) → from ≤ u → is_turn I P u ≡ true → ⊥
 
--- how a walk ends whose next step is wanted and not made: the next turn is faulty, or there is none
-pub data Ends (I : Instance) (P : Schedule) (from : ℕ) : Progress → Type 0 where
-  at_fault : {n : ℕ} (t : ℕ) → NextTurn I P from t → n ≡ fault_at I P t → 1 ≤ n → Ends I P from (stopped n t)
-  at_end : {span : ℕ} → NoTurn I P from → span ≡ makespan I P → Ends I P from (ended span)
+-- how a walk ends: at a faulty turn, with no turn left, or, where no step more is wanted, with steps left
+pub data Ends (I : Instance) (P : Schedule) (from : ℕ) (wanted : Bool) : Progress → Type 0 where
+  at_fault : {n : ℕ} (t : ℕ) → wanted ≡ true → NextTurn I P from t → n ≡ fault_at I P t → 1 ≤ n → Ends I P from wanted (stopped n t)
+  at_end : {span : ℕ} → NoTurn I P from → span ≡ makespan I P → Ends I P from wanted (ended span)
+  not_wanted : (t : ℕ) → wanted ≡ false → NextTurn I P from t → Ends I P from wanted steps_left
 
--- how one ends that has made all steps wanted
-pub data Reaches (I : Instance) (P : Schedule) (from : ℕ) : Progress → Type 0 where
-  goes_on : (t : ℕ) → NextTurn I P from t → Reaches I P from steps_left
-  is_over : {span : ℕ} → NoTurn I P from → span ≡ makespan I P → Reaches I P from (ended span)
-
--- what the next step does from tick `from` on
-abbrev pub Ahead : Instance → Schedule → ℕ → Result ℕ Code.Progress → Type 0
-Ahead I P from r = MatchResult r (λ t. NextTurn I P from t × (fault_at I P t ≡ 0)) (λ p. Ends I P from (as_progress p))
+-- what comes next from tick `from` on: a step onto tick t, or the end
+abbrev pub Ahead : Instance → Schedule → ℕ → Bool → ControlFlow Code.Progress ℕ → Type 0
+Ahead I P from wanted r =
+    MatchControlFlow r (λ t. (wanted ≡ true) × NextTurn I P from t × (fault_at I P t ≡ 0)) (λ p. Ends I P from wanted (as_progress p))
 
 -- the state after so many steps, the last of them onto tick t
 abbrev pub state_by : Instance → Schedule → ℕ → ℕ → State

@@ -3,7 +3,7 @@ ghost use Rattle.std.specs.Prelude.{◌≡◌};
 ghost use Rattle.rules.specs.Simulation.{before, number_of, place_of, left_of, span_of};
 ghost use Rattle.simulator.specs.Answers.{fault_number, as_progress, as_simulation};
 
-use rules::Board;
+use rules::{Board, Refusal};
 
 // What stops a walk at a tick, in the order in which it is looked for.
 #[derive(Clone, Copy, PartialEq, Eq)]
@@ -17,13 +17,14 @@ pub enum TickFault {
 }
 
 impl TickFault {
+    // Its number, which the marker's refusal for the same fault has too.
     pub fn number(self) -> u64
         ensures { result ≡ fault_number self }
     {
         match self {
-            TickFault::Overlap => 15,
-            TickFault::Early => 16,
-            TickFault::OverLimit => 17,
+            TickFault::Overlap => Refusal::Overlap(0).number(),
+            TickFault::Early => Refusal::Early(0).number(),
+            TickFault::OverLimit => Refusal::OverLimit(0).number(),
         }
     }
 }

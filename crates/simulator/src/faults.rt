@@ -41,12 +41,7 @@ fn overlaps_begun(t: &Timetable, tick: u64, i: usize) -> bool
     requires { i < t.now.job.shape.tasks }
     ensures { result ≡ overlaps_begun (instance_in t.now.job) (schedule_in t.now) tick i }
 {
-    for j in 0..t.job.shape.tasks {
-        if begun_overlaps(t, tick, i, j) {
-            return true;
-        }
-    }
-    false
+    (0..t.job.shape.tasks).any(|j| begun_overlaps(t, tick, i, j))
 }
 
 // Whether task i's run starts at the tick and overlaps one that starts by then: most runs start at another tick, and cost no look at the others.
@@ -61,12 +56,7 @@ fn starts_overlapping(t: &Timetable, tick: u64, i: usize) -> bool
 fn shares_at(t: &Timetable, tick: u64) -> bool
     ensures { result ≡ shares_at (instance_in t.now.job) (schedule_in t.now) tick }
 {
-    for i in 0..t.job.shape.tasks {
-        if starts_overlapping(t, tick, i) {
-            return true;
-        }
-    }
-    false
+    (0..t.job.shape.tasks).any(|i| starts_overlapping(t, tick, i))
 }
 
 // Whether the tick is the start of a move of a file that is not made by then.
@@ -95,12 +85,7 @@ fn file_early(t: &Timetable, tick: u64, k: usize) -> bool
 fn early_at(t: &Timetable, tick: u64) -> bool
     ensures { result ≡ early_at (instance_in t.now.job) (schedule_in t.now) tick }
 {
-    for k in 0..t.job.shape.files {
-        if file_early(t, tick, k) {
-            return true;
-        }
-    }
-    false
+    (0..t.job.shape.files).any(|k| file_early(t, tick, k))
 }
 
 // Whether a memory is over its limit at the tick: what is held then is counted, by the definition.

@@ -91,16 +91,12 @@ fn next_of_file(t: &Timetable, k: usize, from: u64) -> Option<u64>
     sooner(moving, held)
 }
 
-// The next of all tasks. One function for these and the files would take a closure, and clauses as long as both.
+// The next of all tasks.
 fn next_of_tasks(t: &Timetable, from: u64) -> Option<u64>
     ensures { Soonest
         (λ u. any_below (task_count (instance_in t.now.job)) (task_turns (instance_in t.now.job) (schedule_in t.now) u)) from result }
 {
-    let mut first = None;
-    for i in 0..t.job.shape.tasks {
-        first = sooner(first, next_of_task(t, i, from));
-    }
-    first
+    (0..t.job.shape.tasks).fold(None, |first, i| sooner(first, next_of_task(t, i, from)))
 }
 
 // The next of all files.
@@ -108,11 +104,7 @@ fn next_of_files(t: &Timetable, from: u64) -> Option<u64>
     ensures { Soonest
         (λ u. any_below (file_count (instance_in t.now.job)) (file_turns (instance_in t.now.job) (schedule_in t.now) u)) from result }
 {
-    let mut first = None;
-    for k in 0..t.job.shape.files {
-        first = sooner(first, next_of_file(t, k, from));
-    }
-    first
+    (0..t.job.shape.files).fold(None, |first, k| sooner(first, next_of_file(t, k, from)))
 }
 
 // The next turn from a tick on, if there is one.

@@ -5,24 +5,29 @@ ghost use Rattle.rules.specs.Simulation.{watch as rules-watch};
 ghost use Rattle.model.specs.Jobs.{instance_in, schedule_in};
 ghost use Rattle.model.specs.Layout.{entries_of, Placed};
 ghost use Rattle.simulator.specs.Answers.{as_progress, as_simulation};
-ghost use Rattle.simulator.specs.Walks.{Ahead, Reaches, state_by};
+ghost use Rattle.simulator.specs.Walks.{Ahead, state_by};
 
 use super::answer::{Progress, Simulation};
 use super::faults::fault_at;
 use super::state::{contents_at, running_at};
 use super::turns::next_turn;
 use model::timetable::Timetable;
+use std::ops::ControlFlow;
 
-// The tick onto which the next step goes from tick `from` on: the next turn, if that is not faulty. Else how the walk ends.
-fn step_from(t: &Timetable, from: u64) -> Result<u64, Progress>
-    ensures { Ahead (instance_in t.now.job) (schedule_in t.now) from result }
+// The tick onto which the next step goes from tick `from` on, if one more is wanted; or how the walk ends: with no turn left, with steps
+// left that are not wanted, or at a faulty turn.
+fn step_from(t: &Timetable, from: u64, wanted: bool) -> ControlFlow<Progress, u64>
+    ensures { Ahead (instance_in t.now.job) (schedule_in t.now) from wanted result }
 {
-    match next_turn(t, from) {
-        Some(tick) => match fault_at(t, tick) {
-            Some(fault) => Err(Progress::Stopped { fault, tick }),
-            None => Ok(tick),
-        },
-        None => Err(Progress::Ended { span: t.makespan() }),
+    let Some(tick) = next_turn(t, from) else {
+        return ControlFlow::Break(Progress::Ended { span: t.makespan() });
+    };
+    if !wanted {
+        return ControlFlow::Break(Progress::StepsLeft);
+    }
+    match fault_at(t, tick) {
+        Some(fault) => ControlFlow::Break(Progress::Stopped { fault, tick }),
+        None => ControlFlow::Continue(tick),
     }
 }
 
@@ -46,32 +51,23 @@ fn answer_after(t: &Timetable, progress: Progress, made: u64, time: u64) -> Simu
     }
 }
 
-// How a walk ends that has made all steps wanted, with the next turn from tick `from` on, if there is one.
-fn progress_at(t: &Timetable, from: u64) -> Progress
-    ensures { Reaches (instance_in t.now.job) (schedule_in t.now) from (as_progress result) }
-{
-    match next_turn(t, from) {
-        Some(_) => Progress::StepsLeft,
-        None => Progress::Ended { span: t.makespan() },
-    }
-}
-
 // The answer when so many steps are wanted in all.
 pub fn watch(t: &Timetable, wanted: u64) -> Simulation
     requires placed { Placed t.now.job.shape (entries_of t.now.schedule.now) }
     requires well_formed { WellFormed (instance_in t.now.job) }
     ensures { as_simulation result ≡ rules-watch (instance_in t.now.job) (schedule_in t.now) wanted }
 {
+    let mut made = 0;
     let mut from = 0;
     let mut time = 0;
-    for made in 0..wanted {
-        match step_from(t, from) {
-            Ok(tick) => {
+    loop {
+        match step_from(t, from, made < wanted) {
+            ControlFlow::Continue(tick) => {
+                made += 1;
                 from = tick + 1;
                 time = tick;
             }
-            Err(progress) => return answer_after(t, progress, made, time),
+            ControlFlow::Break(progress) => return answer_after(t, progress, made, time),
         }
     }
-    answer_after(t, progress_at(t, from), wanted, time)
 }

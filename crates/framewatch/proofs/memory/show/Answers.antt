@@ -9,8 +9,8 @@ right-row-requires g c =
     let h = decimal-long c.total-held.result limit_columns (omega arith) (omega arith) in
     omega arith
 
-pub files-requires-clause-file_columns_bound : goal.files-requires-clause-file_columns_bound
-files-requires-clause-file_columns_bound g c =
+pub files-requires : goal.files-requires
+files-requires g c =
     let h = decimal-long c.total-held.result limit_columns (omega arith) (omega arith) in
     let m = decimal-long c.by_colour-limit.result limit_columns (omega arith) (omega arith) in
     omega arith

@@ -8,9 +8,3 @@ text-requires-3 g c =
     let t = decimal-long c.args.job.now.shape.tasks 2 (omega arith) (omega arith) in
     let f = decimal-long c.args.job.now.shape.files 3 (omega arith) (omega arith) in
     omega arith
-
-pub end-requires : goal.end-requires
-end-requires g c =
-    let t = decimal-long c.args.job.now.shape.tasks 2 (omega arith) (omega arith) in
-    let f = decimal-long c.args.job.now.shape.files 3 (omega arith) (omega arith) in
-    omega arith
