@@ -12,9 +12,10 @@ use Rattle.rules.specs.Model.{Colour, Instance, Schedule}
 use Rattle.rules.specs.Changes.{residencies, Change, changes, change_at, same_change, InOrder, InTime}
 use Rattle.rules.proofs.CountLaws.{length-list_below, get_or-list_below}
 use Rattle.rules.proofs.ChangeLaws.{sum-list}
-use Rattle.model.specs.declared.layout.Shape.{Shape}
-use Rattle.model.specs.Layout.{Job, Entries, instance_from, schedule_from}
-use Rattle.model.proofs.LayoutLaws.{file-count, task-count}
+use Rattle.model.specs.declared.job.Job.{Job}
+use Rattle.model.specs.Layout.{Entries}
+use Rattle.model.specs.Jobs.{instance_in, schedule_by}
+use Rattle.model.proofs.JobLaws.{files-in, tasks-in}
 use Rattle.sorting.specs.Sorted.{Sorted}
 use Rattle.changes.specs.Packed.{unpacked}
 use Rattle.changes.specs.Listed.{listed, file_residency, work_residency, Listing}
@@ -57,18 +58,18 @@ module _ {xs ys : List ℕ} (same_length : length ys ≡ length xs) (s : Sorted 
 
 -- ---- those of the files and then those of the working memory are all
 
-module _ (b : Shape) (J : Job) (L : Entries) (c : Colour) where
+module _ (j : Job) (L : Entries) (c : Colour) where
   abbrev I : Instance
-  I = instance_from b J
+  I = instance_in j
 
   abbrev P : Schedule
-  P = schedule_from b L
+  P = schedule_by j L
 
-  all_listed : {ys zs : List ℕ} → Listing [] (file_residency I P c) b.files ys → Listing ys (work_residency I P c) b.tasks zs
+  all_listed : {ys zs : List ℕ} → Listing [] (file_residency I P c) (length j.files.now) ys → Listing ys (work_residency I P c) (length j.tasks.now) zs
       → listed zs ≡ changes I P c
   unfolding residencies
-  all_listed f w = listing-both (file_residency I P c) (work_residency I P c) b.files b.tasks f w ∙ rw (file-count b J, task-count b J)
+  all_listed f w = listing-both (file_residency I P c) (work_residency I P c) (length j.files.now) (length j.tasks.now) f w ∙ rw (files-in j, tasks-in j)
 
-  pub sorted-in-time : {ys zs us : List ℕ} → Listing [] (file_residency I P c) b.files ys → Listing ys (work_residency I P c) b.tasks zs
+  pub sorted-in-time : {ys zs us : List ℕ} → Listing [] (file_residency I P c) (length j.files.now) ys → Listing ys (work_residency I P c) (length j.tasks.now) zs
       → length us ≡ length zs → Sorted (length zs) zs us → InTime I P c (listed us)
   sorted-in-time f w e s = in-time e s I P c (all_listed f w)

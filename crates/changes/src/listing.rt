@@ -1,5 +1,5 @@
 // The changes of a memory, listed and sorted.
-ghost use Rattle.std.specs.Prelude.{◌+◌, ◌<◌, ◌≤◌};
+ghost use Rattle.std.specs.Prelude.{◌+◌, ◌<◌, ◌≤◌, length};
 ghost use Rattle.rules.specs.Changes.{InTime};
 ghost use Rattle.arrayvec.specs.ArrayVec.{array_vec_len};
 ghost use Rattle.model.specs.Colours.{as_colour};
@@ -36,22 +36,22 @@ fn push(changes: &mut Changes, h: Hold, size: u64)
 
 // Appends the changes of the files. One function for these and those of the tasks would take a closure, and clauses as long as both.
 fn push_files(t: &Timetable, colour: Colour, changes: &mut Changes)
-    requires { array_vec_len changes.old + (t.now.job.shape.files + t.now.job.shape.files) ≤ capacity }
-    ensures { Listing changes.old.items (file_residency (instance_in t.now.job) (schedule_in t.now) (as_colour colour)) t.now.job.shape.files
+    requires { array_vec_len changes.old + (length t.now.job.files.now + length t.now.job.files.now) ≤ capacity }
+    ensures { Listing changes.old.items (file_residency (instance_in t.now.job) (schedule_in t.now) (as_colour colour)) (length t.now.job.files.now)
         changes.new.items }
 {
-    for k in 0..t.job.shape.files {
+    for k in 0..t.job.files.len() {
         push(changes, t.hold_of(k, colour), t.job.size(k));
     }
 }
 
 // Appends the changes of the tasks' working memory.
 fn push_work(t: &Timetable, colour: Colour, changes: &mut Changes)
-    requires { array_vec_len changes.old + (t.now.job.shape.tasks + t.now.job.shape.tasks) ≤ capacity }
-    ensures { Listing changes.old.items (work_residency (instance_in t.now.job) (schedule_in t.now) (as_colour colour)) t.now.job.shape.tasks
+    requires { array_vec_len changes.old + (length t.now.job.tasks.now + length t.now.job.tasks.now) ≤ capacity }
+    ensures { Listing changes.old.items (work_residency (instance_in t.now.job) (schedule_in t.now) (as_colour colour)) (length t.now.job.tasks.now)
         changes.new.items }
 {
-    for i in 0..t.job.shape.tasks {
+    for i in 0..t.job.tasks.len() {
         push(changes, t.work_hold(i, colour), t.job.work(i));
     }
 }

@@ -1,6 +1,6 @@
 // The fault of a tick: 15 at the later start of two runs that overlap, 16 at an early move or an early start, 17 over a limit, by the files and
 // the working memory (Order 6) that are held.
-ghost use Rattle.std.specs.Prelude.{◌≡◌, ◌<◌};
+ghost use Rattle.std.specs.Prelude.{◌≡◌, ◌<◌, length};
 ghost use Rattle.rules.specs.Validity.{overlap, over};
 ghost use Rattle.rules.specs.Simulation.{shares_at, file_early, early_at, fault_at};
 ghost use Rattle.model.specs.Jobs.{instance_in, schedule_in};
@@ -17,7 +17,7 @@ use validator::timing::starts_early;
 
 // Whether two tasks are two, and their runs are on one processor and share an instant.
 fn overlapping_tasks(t: &Timetable, i: usize, j: usize) -> bool
-    requires { (i < t.now.job.shape.tasks) × (j < t.now.job.shape.tasks) }
+    requires { (i < length t.now.job.tasks.now) × (j < length t.now.job.tasks.now) }
     ensures { result ≡ overlap (instance_in t.now.job) (schedule_in t.now) i j }
 {
     if i == j {
@@ -30,7 +30,7 @@ fn overlapping_tasks(t: &Timetable, i: usize, j: usize) -> bool
 
 // Whether task j's run starts by the tick and overlaps task i's.
 fn begun_overlaps(t: &Timetable, tick: u64, i: usize, j: usize) -> bool
-    requires { (i < t.now.job.shape.tasks) × (j < t.now.job.shape.tasks) }
+    requires { (i < length t.now.job.tasks.now) × (j < length t.now.job.tasks.now) }
     ensures { result ≡ begun_overlaps (instance_in t.now.job) (schedule_in t.now) tick i j }
 {
     t.start(j) <= tick && overlapping_tasks(t, i, j)
@@ -38,15 +38,15 @@ fn begun_overlaps(t: &Timetable, tick: u64, i: usize, j: usize) -> bool
 
 // Whether task i's run overlaps one that starts by the tick.
 fn overlaps_begun(t: &Timetable, tick: u64, i: usize) -> bool
-    requires { i < t.now.job.shape.tasks }
+    requires { i < length t.now.job.tasks.now }
     ensures { result ≡ overlaps_begun (instance_in t.now.job) (schedule_in t.now) tick i }
 {
-    (0..t.job.shape.tasks).any(|j| begun_overlaps(t, tick, i, j))
+    (0..t.job.tasks.len()).any(|j| begun_overlaps(t, tick, i, j))
 }
 
 // Whether task i's run starts at the tick and overlaps one that starts by then: most runs start at another tick, and cost no look at the others.
 fn starts_overlapping(t: &Timetable, tick: u64, i: usize) -> bool
-    requires { i < t.now.job.shape.tasks }
+    requires { i < length t.now.job.tasks.now }
     ensures { result ≡ starts_overlapping (instance_in t.now.job) (schedule_in t.now) tick i }
 {
     t.start(i) == tick && overlaps_begun(t, tick, i)
@@ -56,7 +56,7 @@ fn starts_overlapping(t: &Timetable, tick: u64, i: usize) -> bool
 fn shares_at(t: &Timetable, tick: u64) -> bool
     ensures { result ≡ shares_at (instance_in t.now.job) (schedule_in t.now) tick }
 {
-    (0..t.job.shape.tasks).any(|i| starts_overlapping(t, tick, i))
+    (0..t.job.tasks.len()).any(|i| starts_overlapping(t, tick, i))
 }
 
 // Whether the tick is the start of a move of a file that is not made by then.
@@ -75,7 +75,7 @@ fn early_by(times: FileTimes, tick: u64) -> bool
 
 // Whether the tick is an early move or an early start of file k.
 fn file_early(t: &Timetable, tick: u64, k: usize) -> bool
-    requires { k < t.now.job.shape.files }
+    requires { k < length t.now.job.files.now }
     ensures { result ≡ file_early (instance_in t.now.job) (schedule_in t.now) tick k }
 {
     early_by(t.file_times(k), tick)
@@ -85,14 +85,14 @@ fn file_early(t: &Timetable, tick: u64, k: usize) -> bool
 fn early_at(t: &Timetable, tick: u64) -> bool
     ensures { result ≡ early_at (instance_in t.now.job) (schedule_in t.now) tick }
 {
-    (0..t.job.shape.files).any(|k| file_early(t, tick, k))
+    (0..t.job.files.len()).any(|k| file_early(t, tick, k))
 }
 
 // Whether a memory is over its limit at the tick: what is held then is counted, by the definition.
 fn over_at(t: &Timetable, tick: u64) -> bool
     ensures { result ≡ over (instance_in t.now.job) (schedule_in t.now) tick }
 {
-    let board = t.job.shape.board;
+    let board = t.job.board;
     board.blue.limit < t.held_at(Colour::Blue, tick)
         || board.red.limit < t.held_at(Colour::Red, tick)
 }

@@ -1,5 +1,5 @@
 // The state of a tick: what each processor runs, and where each file is held. Working memory (Order 6) is no part of it.
-ghost use Rattle.std.specs.Prelude.{◌≡◌, ◌<◌};
+ghost use Rattle.std.specs.Prelude.{◌≡◌, ◌<◌, length};
 ghost use Rattle.rules.specs.Simulation.{occupies, running_on, memory_number, held_in, state_at};
 ghost use Rattle.model.specs.Jobs.{instance_in, schedule_in};
 
@@ -9,7 +9,7 @@ use rules::Board;
 
 // Whether task i occupies the processor at the tick.
 fn occupies_at(t: &Timetable, tick: u64, processor: u64, i: usize) -> bool
-    requires { i < t.now.job.shape.tasks }
+    requires { i < length t.now.job.tasks.now }
     ensures { result ≡ occupies (instance_in t.now.job) (schedule_in t.now) processor tick i }
 {
     if t.processor(i) != processor || tick < t.start(i) {
@@ -22,7 +22,7 @@ fn occupies_at(t: &Timetable, tick: u64, processor: u64, i: usize) -> bool
 fn running_on(t: &Timetable, tick: u64, processor: u64) -> u64
     ensures { result ≡ running_on (instance_in t.now.job) (schedule_in t.now) tick processor }
 {
-    for i in 0..t.job.shape.tasks {
+    for i in 0..t.job.tasks.len() {
         if occupies_at(t, tick, processor, i) {
             return i as u64 + 1;
         }
@@ -57,7 +57,7 @@ fn memory_number(blue: bool, red: bool) -> u64
 fn held_in(t: &Timetable, tick: u64, k: usize) -> u64
     ensures { result ≡ held_in (instance_in t.now.job) (schedule_in t.now) tick k }
 {
-    if t.job.shape.files <= k {
+    if t.job.files.len() <= k {
         return 0;
     }
     let blue = t.hold_of(k, Colour::Blue).covers(tick);

@@ -1,6 +1,6 @@
 // The ticks at which a run, a move or a hold starts or ends, here a turn: the next one from a tick on. A hold is that of a file or, by Order 6,
 // that of a task's working memory.
-ghost use Rattle.std.specs.Prelude.{◌||◌, eqb, ◌<◌, ◌≤◌};
+ghost use Rattle.std.specs.Prelude.{◌||◌, eqb, ◌<◌, ◌≤◌, length};
 ghost use Rattle.rules.specs.Count.{any_below};
 ghost use Rattle.rules.specs.Model.{task_count, file_count};
 ghost use Rattle.rules.specs.Simulation.{turns, run_turns, task_turns, move_turns, file_turns, is_turn};
@@ -52,7 +52,7 @@ fn next_of_holds(from: u64, blue: Hold, red: Hold) -> Option<u64>
 
 // The next start or end of task i's run.
 fn next_of_run(t: &Timetable, i: usize, from: u64) -> Option<u64>
-    requires { i < t.now.job.shape.tasks }
+    requires { i < length t.now.job.tasks.now }
     ensures { Soonest (λ u. run_turns (instance_in t.now.job) (schedule_in t.now) u i) from result }
 {
     next_of_two(from, t.start(i), t.finish(i))
@@ -60,7 +60,7 @@ fn next_of_run(t: &Timetable, i: usize, from: u64) -> Option<u64>
 
 // The next start or end of task i's run or of the hold of its working memory.
 fn next_of_task(t: &Timetable, i: usize, from: u64) -> Option<u64>
-    requires { i < t.now.job.shape.tasks }
+    requires { i < length t.now.job.tasks.now }
     ensures { Soonest (λ u. task_turns (instance_in t.now.job) (schedule_in t.now) u i) from result }
 {
     let running = next_of_run(t, i, from);
@@ -72,7 +72,7 @@ fn next_of_task(t: &Timetable, i: usize, from: u64) -> Option<u64>
 
 // The next start or end of file k's move.
 fn next_of_move(t: &Timetable, k: usize, from: u64) -> Option<u64>
-    requires { k < t.now.job.shape.files }
+    requires { k < length t.now.job.files.now }
     ensures { Soonest (λ u. move_turns (instance_in t.now.job) (schedule_in t.now) u k) from result }
 {
     let transfer = t.file_times(k).transfer?;
@@ -81,7 +81,7 @@ fn next_of_move(t: &Timetable, k: usize, from: u64) -> Option<u64>
 
 // The next start or end of file k's move or of one of its holds.
 fn next_of_file(t: &Timetable, k: usize, from: u64) -> Option<u64>
-    requires { k < t.now.job.shape.files }
+    requires { k < length t.now.job.files.now }
     ensures { Soonest (λ u. file_turns (instance_in t.now.job) (schedule_in t.now) u k) from result }
 {
     let moving = next_of_move(t, k, from);
@@ -96,7 +96,7 @@ fn next_of_tasks(t: &Timetable, from: u64) -> Option<u64>
     ensures { Soonest
         (λ u. any_below (task_count (instance_in t.now.job)) (task_turns (instance_in t.now.job) (schedule_in t.now) u)) from result }
 {
-    (0..t.job.shape.tasks).fold(None, |first, i| sooner(first, next_of_task(t, i, from)))
+    (0..t.job.tasks.len()).fold(None, |first, i| sooner(first, next_of_task(t, i, from)))
 }
 
 // The next of all files.
@@ -104,7 +104,7 @@ fn next_of_files(t: &Timetable, from: u64) -> Option<u64>
     ensures { Soonest
         (λ u. any_below (file_count (instance_in t.now.job)) (file_turns (instance_in t.now.job) (schedule_in t.now) u)) from result }
 {
-    (0..t.job.shape.files).fold(None, |first, k| sooner(first, next_of_file(t, k, from)))
+    (0..t.job.files.len()).fold(None, |first, k| sooner(first, next_of_file(t, k, from)))
 }
 
 // The next turn from a tick on, if there is one.

@@ -3,7 +3,7 @@ ghost use Rattle.std.specs.Prelude.{◌≡◌};
 ghost use Rattle.rules.specs.Promises.{WellFormed};
 ghost use Rattle.rules.specs.Simulation.{watch as rules-watch};
 ghost use Rattle.model.specs.Jobs.{instance_in, schedule_in};
-ghost use Rattle.model.specs.Layout.{entries_of, Placed};
+ghost use Rattle.model.specs.Jobs.{AllPlaced};
 ghost use Rattle.simulator.specs.Answers.{as_progress, as_simulation};
 ghost use Rattle.simulator.specs.Walks.{Ahead, state_by};
 
@@ -53,7 +53,7 @@ fn answer_after(t: &Timetable, progress: Progress, made: u64, time: u64) -> Simu
 
 // The answer when so many steps are wanted in all.
 pub fn watch(t: &Timetable, wanted: u64) -> Simulation
-    requires placed { Placed t.now.job.shape (entries_of t.now.schedule.now) }
+    requires placed { AllPlaced t.now.job t.now.schedule.now }
     requires well_formed { WellFormed (instance_in t.now.job) }
     ensures { as_simulation result ≡ rules-watch (instance_in t.now.job) (schedule_in t.now) wanted }
 {

@@ -14,7 +14,7 @@ use runs::Run;
 
 // The run of task i.
 pub fn run_of(t: &Timetable, i: usize) -> Run
-    requires { i < t.now.job.shape.tasks }
+    requires { i < length t.now.job.tasks.now }
     ensures { result ≡ record_at (instance_in t.now.job) (schedule_in t.now) i }
 {
     Run {
@@ -26,11 +26,11 @@ pub fn run_of(t: &Timetable, i: usize) -> Run
 
 // The runs of all tasks.
 fn all_runs(t: &Timetable) -> ArrayVec<Run, { Board::MAX_TASKS }>
-    ensures count { length result.items ≡ t.now.job.shape.tasks }
-    ensures records { Records (instance_in t.now.job) (schedule_in t.now) t.now.job.shape.tasks result.items }
+    ensures count { length result.items ≡ length t.now.job.tasks.now }
+    ensures records { Records (instance_in t.now.job) (schedule_in t.now) (length t.now.job.tasks.now) result.items }
 {
     let mut all = ArrayVec::new();
-    for i in 0..t.job.shape.tasks {
+    for i in 0..t.job.tasks.len() {
         all.push(run_of(t, i));
     }
     all
@@ -38,8 +38,8 @@ fn all_runs(t: &Timetable) -> ArrayVec<Run, { Board::MAX_TASKS }>
 
 // The lowest task that shares an instant with another run on its processor.
 pub fn first_overlapping(t: &Timetable) -> Option<usize>
-    ensures in_range { IfSome result (λ i. i < t.now.job.shape.tasks) }
-    ensures lowest { unwrap_or result t.now.job.shape.tasks ≡
+    ensures in_range { IfSome result (λ i. i < length t.now.job.tasks.now) }
+    ensures lowest { unwrap_or result (length t.now.job.tasks.now) ≡
         first_below (task_count (instance_in t.now.job)) (overlaps (instance_in t.now.job) (schedule_in t.now)) }
 {
     let all = all_runs(t);

@@ -4,7 +4,7 @@ ghost use Rattle.rules.specs.Promises.{WellFormed};
 ghost use Rattle.rules.specs.Validity.{judge as rules-judge};
 ghost use Rattle.model.specs.Claims.{as_claim};
 ghost use Rattle.model.specs.Jobs.{instance_in, schedule_in};
-ghost use Rattle.model.specs.Layout.{entries_of, Placed};
+ghost use Rattle.model.specs.Jobs.{AllPlaced};
 ghost use Rattle.validator.specs.Answer.{as_verdict};
 
 use super::exclusion::first_overlapping;
@@ -17,7 +17,7 @@ use rules::Refusal;
 // The marker's answer on a complete timetable and its claim: the claim if it is accepted.
 pub fn judge(t: &Timetable, claim: Claim) -> Result<Claim, Refusal>
     requires well_formed { WellFormed (instance_in t.now.job) }
-    requires placed { Placed t.now.job.shape (entries_of t.now.schedule.now) }
+    requires placed { AllPlaced t.now.job t.now.schedule.now }
     ensures { as_verdict result ≡ rules-judge (instance_in t.now.job) (schedule_in t.now) (as_claim claim) }
 {
     if let Some(task) = first_overlapping(t) {

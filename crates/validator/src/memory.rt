@@ -19,7 +19,7 @@ pub struct Memories {
 pub fn walk_memories(t: &Timetable) -> Memories
     ensures { ByChanges (instance_in t.now.job) (schedule_in t.now) (over_of result.over) result.blue_peak result.red_peak }
 {
-    let board = t.job.shape.board;
+    let board = t.job.board;
     let blue = totals_of(t, Colour::Blue, board.blue.limit);
     let red = totals_of(t, Colour::Red, board.red.limit);
     Memories {

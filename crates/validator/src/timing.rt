@@ -1,5 +1,5 @@
 // Files that move before they are made, or are read before they arrive.
-ghost use Rattle.std.specs.Prelude.{◌≡◌, ◌<◌, IfSome};
+ghost use Rattle.std.specs.Prelude.{◌≡◌, ◌<◌, IfSome, length};
 ghost use Rattle.std.specs.Option.{unwrap_or};
 ghost use Rattle.rules.specs.Count.{first_below};
 ghost use Rattle.rules.specs.Model.{task_count};
@@ -38,7 +38,7 @@ fn too_early(times: FileTimes) -> bool
 
 // Whether file k is early.
 fn early_file(t: &Timetable, k: usize) -> bool
-    requires { k < t.now.job.shape.files }
+    requires { k < length t.now.job.files.now }
     ensures { result ≡ early (instance_in t.now.job) (schedule_in t.now) k }
 {
     too_early(t.file_times(k))
@@ -46,13 +46,13 @@ fn early_file(t: &Timetable, k: usize) -> bool
 
 // The lowest task that reads an early file.
 pub fn first_early(t: &Timetable) -> Option<usize>
-    ensures in_range { IfSome result (λ i. i < t.now.job.shape.tasks) }
-    ensures lowest { unwrap_or result t.now.job.shape.tasks ≡
+    ensures in_range { IfSome result (λ i. i < length t.now.job.tasks.now) }
+    ensures lowest { unwrap_or result (length t.now.job.tasks.now) ≡
         first_below (task_count (instance_in t.now.job)) (reads_early (instance_in t.now.job) (schedule_in t.now)) }
 {
-    let tasks = t.job.shape.tasks;
+    let tasks = t.job.tasks.len();
     let mut first = tasks;
-    for k in 0..t.job.shape.files {
+    for k in 0..t.job.files.len() {
         if early_file(t, k) {
             first = first.min(t.job.reader(k));
         }

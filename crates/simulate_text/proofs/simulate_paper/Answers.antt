@@ -1,5 +1,6 @@
 -- `simulate_paper` meets its contract: what is read is walked through, what is not is refused.
-use Rattle.model.specs.Layout.{job_of, entries_of, instance_from, schedule_from}
+use Rattle.model.specs.Layout.{entries_of}
+use Rattle.model.specs.Jobs.{instance_in, schedule_by}
 use Rattle.model.proofs.SpelledLaws.{spelled-placed, spelled-bounds}
 use Rattle.schedule.proofs.ReadLaws.{read-spellable, was_read}
 use Rattle.simulate_text.proofs.PaperLaws.{paper-watched, paper-refused}
@@ -9,17 +10,15 @@ use Rattle.simulate_text.proofs.simulate_paper.Goals as goal
 pub invariant_of-timetable : goal.invariant_of-timetable
 invariant_of-timetable c =
     let b = c.args.job.now.shape in
-    let J = job_of c.args.job.now.numbers.now in
     let L = entries_of c.read.new.schedule in
-    let w = was_read (instance_from b J) c.args.paper.now (schedule_from b L) c.read.result c.read.ensures c.in_ok-_claim.was in
+    let w = was_read (instance_in j) c.args.paper.now (schedule_by j L) c.read.result c.read.ensures c.in_ok-_claim.was in
     record { in_bounds = spelled-bounds b J L _ (read-spellable b J L _ c.args.paper.now w) }
 
 pub watch-requires-clause-placed : goal.watch-requires-clause-placed
 watch-requires-clause-placed c =
     let b = c.args.job.now.shape in
-    let J = job_of c.args.job.now.numbers.now in
     let L = entries_of c.read.new.schedule in
-    let w = was_read (instance_from b J) c.args.paper.now (schedule_from b L) c.read.result c.read.ensures c.in_ok-_claim.was in
+    let w = was_read (instance_in j) c.args.paper.now (schedule_by j L) c.read.result c.read.ensures c.in_ok-_claim.was in
     spelled-placed b J L _ (read-spellable b J L _ c.args.paper.now w)
 
 pub returns-in_err-_claim : goal.returns-in_err-_claim
@@ -33,10 +32,9 @@ returns-in_err-_claim c =
 pub returns : goal.returns
 returns c =
     let b = c.args.job.now.shape in
-    let J = job_of c.args.job.now.numbers.now in
     let L = entries_of c.read.new.schedule in
-    let I = instance_from b J in
-    let P = schedule_from b L in
+    let I = instance_in j in
+    let P = schedule_by j L in
     let w = was_read I c.args.paper.now P c.read.result c.read.ensures c.in_ok-_claim.was in
     paper-watched I c.args.paper.now P c.read.result c.read.ensures c.args.made c.args.steps c.requires c.in_ok-_claim.was
     (read-spellable b J L _ c.args.paper.now w) c.wanted_steps.ensures c.watch.ensures

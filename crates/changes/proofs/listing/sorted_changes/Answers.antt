@@ -4,7 +4,7 @@ use borrow.Author.Rules.{rules}
 use Rattle.arrayvec.specs.ArrayVec.{array_vec_len}
 use Rattle.arrayvec.proofs.ArrayVecLemmas.{items-with_items}
 use Rattle.model.specs.Colours.{as_colour}
-use Rattle.model.specs.Layout.{job_of, entries_of}
+use Rattle.model.specs.Layout.{entries_of}
 use Rattle.changes.proofs.OrderLaws.{sorted-in-time}
 use Rattle.changes.proofs.listing.sorted_changes.Goals as goal
 
@@ -15,5 +15,5 @@ returns-clause-in_time c =
     let same : length c.sort.new.a ≡ length c.as_mut_slice.result.now = search rules in
     let whole : length c.sort.new.a ≡ array_vec_len v = same ∙ ap length c.as_mut_slice.ensures.value in
     rw (items-with_items v c.sort.new.a whole)
-    (sorted-in-time t.job.shape (job_of t.job.numbers.now) (entries_of t.schedule.now) (as_colour c.args.colour) (rw c.clear.ensures at c.push_files.ensures)
+    (sorted-in-time t.job (entries_of t.schedule.now) (as_colour c.args.colour) (rw c.clear.ensures at c.push_files.ensures)
     c.push_work.ensures whole (rw c.as_mut_slice.ensures.value at c.sort.ensures))

@@ -1,4 +1,5 @@
 -- `early_at` meets its contract.
+use lib.ListN.{length}
 use Rattle.std.proofs.Common.{rules}
 use Rattle.rules.specs.Simulation.{file_early}
 use Rattle.model.specs.Jobs.{instance_in, schedule_in}
@@ -12,5 +13,5 @@ returns c =
     let t = c.args.t.now in
     let r = c.any.ensures.runs in
     rw (← early-is (instance_in t.job) (schedule_in t) c.args.tick, files-in t.job)
-    (any-range _ _ t.job.shape.files (file_early (instance_in t.job) (schedule_in t) c.args.tick) r.0 (search rules) (search rules) (search rules)
+    (any-range _ _ (length t.job.files.now) (file_early (instance_in t.job) (schedule_in t) c.args.tick) r.0 (search rules) (search rules) (search rules)
     (λ k b l e. search rules) c.any.result r.2)

@@ -1,9 +1,9 @@
 -- `first_early` meets its contract.
+use lib.ListN.{length}
 use mathlib.Core.Path.{◌≡◌, sym, ◌∙◌}
 use native.Mathlib.Omega.{arith}
 use Rattle.model.specs.Jobs.{instance_in, schedule_in}
-use Rattle.model.specs.Layout.{job_of}
-use Rattle.model.proofs.LayoutLaws.{task-count, file-count}
+use Rattle.model.proofs.JobLaws.{tasks-in, files-in}
 use Rattle.validator.proofs.LeastLaws.{least-none}
 use Rattle.validator.proofs.Loops.{early-found, early-passed, early-total}
 use Rattle.validator.proofs.timing.first_early.Goals as goal
@@ -16,7 +16,7 @@ pub loop-k-preserved : goal.loop-k-preserved
 loop-k-preserved c =
     let t = c.args.t.now in
     let I = instance_in t.job in
-    let tasks = task-count t.job.shape (job_of t.job.numbers.now) in
+    let tasks = tasks-in t.job in
     elim c.if-early_file.branch [
       | then-early_file w ↦ (
         omega arith,
@@ -28,13 +28,11 @@ loop-k-preserved c =
 pub returns-then-first-tasks-clause-lowest : goal.returns-then-first-tasks-clause-lowest
 returns-then-first-tasks-clause-lowest c =
     let t = c.args.t.now in
-    let J = job_of t.job.numbers.now in
-    early-total (instance_in t.job) (schedule_in t) (task-count t.job.shape J) c.loop-k.k (file-count t.job.shape J ∙ omega arith) c.loop-k.invariant.1
+    early-total (instance_in t.job) (schedule_in t) (tasks-in t.job) c.loop-k.k (files-in t.job ∙ omega arith) c.loop-k.invariant.1
 
 pub returns-else-first-tasks-clause-lowest : goal.returns-else-first-tasks-clause-lowest
 returns-else-first-tasks-clause-lowest c =
     let t = c.args.t.now in
-    let J = job_of t.job.numbers.now in
-    let e : t.job.shape.tasks ≡ c.loop-k.first = omega arith in
-    e ∙ early-total (instance_in t.job) (schedule_in t) (task-count t.job.shape J) c.loop-k.k (file-count t.job.shape J ∙ omega arith)
+    let e : (length t.job.tasks.now) ≡ c.loop-k.first = omega arith in
+    e ∙ early-total (instance_in t.job) (schedule_in t) (tasks-in t.job) c.loop-k.k (files-in t.job ∙ omega arith)
     c.loop-k.invariant.1
