@@ -4,15 +4,28 @@ ghost use Rattle.rules.specs.Text.{starts_with};
 ghost use Rattle.text.specs.Cut.{lineless, Parted, nothing, scan_ended, Cut};
 ghost use Rattle.text.specs.FirstLine.{first_line, Passed};
 
+use crate::lines::Taken;
 use crate::numerals::number;
 
 // What a form finds at the front of a text: the text's first line, without its LF, that line's first four numbers, 0 for each that the form
-// does not have, and the text behind the LF.
+// does not have, and the text behind the LF. The line is handed on as a part of the text, though the readers need its numbers alone.
 #[derive(Clone, Copy)]
 pub struct Found<'a> {
     pub line: &'a [u8],
     pub numbers: [u64; 4],
     pub rest: &'a [u8],
+}
+
+impl<'a> Found<'a> {
+    // A value that was read of the line, and the text behind the line.
+    pub fn with<T>(&self, value: T) -> Taken<'a, T>
+        ensures { (result.value ≡ value) × (result.rest.now ≡ self.now.rest.now) }
+    {
+        Taken {
+            value,
+            rest: self.rest,
+        }
+    }
 }
 
 // Whether the byte `b` stands at a place of `text`.
