@@ -61,10 +61,6 @@ entries_of xs = record {
   move_start = λ k. get_or xs.moves k 0;
 }
 
--- the length of an array of last finishes
-abbrev pub last_length : ℕ
-last_length = all_processors
-
 -- ---- what is stored with one task, file, run or move start written
 
 abbrev pub with_task_at : Numbers → ℕ → ℕ → ℕ → ℕ → Numbers
@@ -220,8 +216,9 @@ abbrev pub most_held : ℕ
 most_held = most_files + most_work
 
 -- no last finish of a processor is later
-abbrev pub LastBounds : Shape → List ℕ → Type 0
-LastBounds b last = Bounded last_tick (b.board.blue.processors + b.board.red.processors) (λ p. get_or last p 0)
+pub record LastBounds (last : List ℕ) : Type 0 where
+  pub whole : length last ≡ all_processors
+  pub each : (p : ℕ) → get_or last p 0 ≤ last_tick
 
 -- every task is placed
 abbrev pub Placed : Shape → Entries → Type 0

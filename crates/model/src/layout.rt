@@ -93,9 +93,6 @@ impl Schedule {
     }
 }
 
-// The last finish of each processor, blue ones first.
-pub const LAST: usize = Board::ALL_PROCESSORS;
-
 // The run time of task i on a processor of the colour.
 pub fn run_time(job: &Numbers, i: usize, colour: Colour) -> u64
     requires { i < max_tasks }
