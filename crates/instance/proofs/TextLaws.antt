@@ -1,17 +1,15 @@
 -- The text of a board sheet as pieces: the board's line, a line for each task and a line for each file.
-use Prim.Native.Nat.{ℕ, suc, ◌+◌, ◌≤◌}
+use lib.ListN.{length}
+use Prim.Native.Nat.{ℕ, suc, ◌+◌}
 use mathlib.Core.Path.{◌≡◌, ◌∙◌}
 use mathlib.Core.List.{List, [], ◌∷◌, ◌++◌, append_assoc}
 use native.Mathlib.Numerals.{add-one}
 use borrow.Author.Tests.{eq-eqb, ne_eqb}
-use lib.ListN.{length}
 use Rattle.rules.specs.BoardType.{side_from}
 use Rattle.rules.specs.Model.{Instance, task_at, file_at}
 use Rattle.rules.specs.Text.{lf, fill}
 use Rattle.rules.specs.InstanceText.{task_form, work_form, board_line, task_line, file_line, instance_bytes, task_lines, file_lines, instance_text}
 use Rattle.rules.proofs.InstanceTextLaws.{task_said, file_said, tasks-next, files-next, text-parts}
-use Rattle.text.proofs.SizeLaws.{three-length}
-use Rattle.text.proofs.LaidLaws.{Fits, three-fit}
 use Rattle.model.specs.declared.job.Job.{Job}
 use Rattle.model.specs.Layout.{instance_of}
 use Rattle.model.specs.Jobs.{instance_in}
@@ -67,9 +65,3 @@ module _ (j : Job) where
   pub text-pieces : instance_text I ≡ (board_part ++ tasks_part) ++ files_part
   unfolding instance_of
   text-pieces = text-parts I ∙ rw (tasks-in j, files-in j) (simp append_assoc)
-
-  pub text-length : (r m l : ℕ) → r ≡ length board_part → m ≡ length tasks_part → l ≡ length files_part → r + m + l ≡ length (instance_text I)
-  text-length r m l p q s = rw text-pieces (three-length board_part tasks_part files_part p q s)
-
-  pub text-fits : (n : ℕ) → length (instance_text I) ≤ n → Fits board_part tasks_part files_part n
-  text-fits n h = three-fit board_part tasks_part files_part (rw text-pieces at h)

@@ -125,34 +125,22 @@ pub fn next_line(sheet: &[u8]) -> Result<Taken<'_, Line>, Fault>
     if let Some(found) = text::line_by(&FILE_WORD, &FOUR_NUMBERS, sheet) {
         let [i, j, size, time] = found.numbers;
         let value = file_of(i, j, size, time)?;
-        return Ok(Taken {
-            value,
-            rest: found.rest,
-        });
+        return Ok(found.with(value));
     }
     if let Some(found) = text::line_by(&TASK_WORD, &THREE_NUMBERS, sheet) {
         let [i, blue, red, _] = found.numbers;
         let value = task_of(i, blue, red, 0)?;
-        return Ok(Taken {
-            value,
-            rest: found.rest,
-        });
+        return Ok(found.with(value));
     }
     if let Some(found) = text::line_by(&TASK_WORD, &FOUR_NUMBERS, sheet) {
         let [i, blue, red, work] = found.numbers;
         let value = work_of(i, blue, red, work)?;
-        return Ok(Taken {
-            value,
-            rest: found.rest,
-        });
+        return Ok(found.with(value));
     }
     let Some(found) = text::line_by(&BOARD_WORD, &BOARD_NUMBERS, sheet) else {
         return Err(Fault::Malformed);
     };
     let [blue, bound, red, limit] = found.numbers;
     let value = board_of(blue, bound, red, limit)?;
-    Ok(Taken {
-        value,
-        rest: found.rest,
-    })
+    Ok(found.with(value))
 }

@@ -47,10 +47,6 @@ entries_of xs = record {
   move_start = λ k. get_or xs.moves k 0;
 }
 
--- the length of an array of last finishes
-abbrev pub last_length : ℕ
-last_length = all_processors
-
 -- ---- what is stored with one run or move start written
 
 abbrev pub with_run_at : StoredSchedule → ℕ → ℕ → ℕ → StoredSchedule
@@ -147,8 +143,9 @@ abbrev pub most_held : ℕ
 most_held = most_files + most_work
 
 -- no last finish of a processor is later
-abbrev pub LastBounds : Board → List ℕ → Type 0
-LastBounds b last = Bounded last_tick (b.blue.processors + b.red.processors) (λ p. get_or last p 0)
+pub record LastBounds (last : List ℕ) : Type 0 where
+  pub whole : length last ≡ all_processors
+  pub each : (p : ℕ) → get_or last p 0 ≤ last_tick
 
 -- every one of n tasks is placed
 abbrev pub Placed : ℕ → Entries → Type 0

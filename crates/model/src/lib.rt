@@ -4,6 +4,7 @@
 pub mod claim;
 pub mod colour;
 pub mod crossing;
+pub mod finishes;
 pub mod job;
 pub mod layout;
 pub mod residency;

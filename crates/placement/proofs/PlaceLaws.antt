@@ -1,5 +1,5 @@
 -- The partial schedule with one task more, and with nothing placed.
-use Prim.Native.Nat.{ℕ, suc, ◌+◌, ◌<◌}
+use Prim.Native.Nat.{ℕ, suc, ◌+◌, ◌≤◌, ◌<◌}
 use mathlib.Core.List.{List}
 use mathlib.Core.Path.{◌≡◌, refl, subst, sym, ap, ◌∙◌}
 use native.Mathlib.Numerals.{add-one}
@@ -7,10 +7,17 @@ use native.Mathlib.Omega.{arith}
 use lib.ListN.{length, get_or, set, replicate}
 use lib.Seq.{get_or-set_same, get_or-set_other}
 use Rattle.rules.specs.Count.{list_below}
-use Rattle.rules.specs.Limits.{max_tasks, max_files}
+use Rattle.rules.specs.Limits.{max_tasks, max_files, all_processors}
 use Rattle.rules.specs.Model.{Instance, Run, unplaced, processor_count, file_count, time_on, task_at}
 use Rattle.rules.specs.Scheduling.{Partial, slot_of, chosen_processor, move_with, assign, empty, finish_on}
+use Rattle.rules.specs.Model.{Colour as RulesColour}
+use Rattle.rules.specs.Promises.{WellFormed, Trial as IsTrial}
+use Rattle.rules.specs.Scheduling.{aware}
+use Rattle.rules.specs.Staircase.{Placed, placed}
 use Rattle.rules.proofs.CountLaws.{list_set, list_same, get_or-same}
+use Rattle.rules.proofs.PlacedLaws.{count-waits}
+use Rattle.rules.proofs.StairsLaws.{placed-sound}
+use Rattle.rules.proofs.StartLaws.{starts, free-processor, processor_law, slot_for, slot-exists, last-here}
 use Rattle.model.specs.declared.layout.Shape.{Shape}
 use Rattle.model.specs.declared.layout.Run.{Run as StoredRun}
 use Rattle.model.specs.declared.layout.Schedule.{Schedule as StoredSchedule}
@@ -18,11 +25,11 @@ use Rattle.model.specs.declared.colour.Colour.{Colour}
 use Rattle.model.specs.declared.colour.Colour.TheVariants.{Blue, Red}
 use Rattle.model.specs.Colours.{as_colour}
 use Rattle.model.specs.Layout.{Job, entries_of, run_from, instance_from, schedule_from, schedule_of, partial_from, count_in, JobBounds, WholeSchedule, unplaced as no_runs}
-use Rattle.model.specs.Layout.{last_length, with_run_at}
+use Rattle.model.specs.Layout.{last_tick, with_run_at}
 use Rattle.model.proofs.LayoutLaws.{file-count, task-count, processors-of}
 use Rattle.model.proofs.WriteLaws.{run-here, run-other}
 use Rattle.placement.specs.Slots.{slot_in}
-use Rattle.placement.proofs.SlotLaws.{slot_at, slot-exists}
+use Rattle.placement.proofs.SlotLaws.{slot_at, slot-exists as slot-within}
 
 -- ---- the whole
 
@@ -40,7 +47,7 @@ module _ {b : Shape} {J : Job} (f : JobBounds b J) (xs : StoredSchedule) (last :
 
   module _ (ys : StoredSchedule) (size : WholeSchedule ys)
       (same : (j : ℕ) → j < max_tasks → run_from (entries_of ys) j ≡ run_from (entries_of xs) j) (p : ℕ) where
-    module _ {slot time : ℕ} (known : length last ≡ last_length)
+    module _ {slot time : ℕ} (known : length last ≡ all_processors)
         (moves : list_below b.files (entries_of ys).move_start ≡ list_below (file_count I) (move_with I (schedule_of b xs) i (as_colour x) s))
         (chosen : p ≡ chosen_processor I Q (as_colour x) s) (exists : p < count_in b x)
         (here : slot ≡ slot_in b x p) (takes : time ≡ time_on (as_colour x) (task_at I i)) where
@@ -64,14 +71,32 @@ module _ {b : Shape} {J : Job} (f : JobBounds b J) (xs : StoredSchedule) (last :
       last-placed : list_below (b.board.blue.processors + b.board.red.processors) (λ q. get_or (set last slot (s + time)) q 0)
           ≡ set (list_below (b.board.blue.processors + b.board.red.processors) (λ q. get_or last q 0)) slot (s + time)
       last-placed =
-          let u : slot < b.board.blue.processors + b.board.red.processors = omega (arith, slot-exists b x p exists) in
+          let u : slot < b.board.blue.processors + b.board.red.processors = omega (arith, slot-within b x p exists) in
           list_set _ (λ q. get_or last q 0) (λ q. get_or (set last slot (s + time)) q 0) slot (s + time) u
           (get_or-set_same last slot (s + time) 0 (omega (arith, f.processors.blue.most, f.processors.red.most)))
           (λ q h d. get_or-set_other last slot q (s + time) 0 d)
 
-      pub placed : {zs : StoredSchedule} → zs ≡ with_run_at ys i (slot + 1) s → partial_from b (entries_of zs) (set last slot (s + time)) ≡ assign I Q i (as_colour x) s
+      pub assigned : {zs : StoredSchedule} → zs ≡ with_run_at ys i (slot + 1) s → partial_from b (entries_of zs) (set last slot (s + time)) ≡ assign I Q i (as_colour x) s
       unfolding assign schedule_from
-      placed e = rw (e, at, ← finish) (parts runs-placed moves last-placed)
+      assigned e = rw (e, at, ← finish) (parts runs-placed moves last-placed)
+
+-- ---- a trial that is placed ends in time
+
+pub finish-bound : (I : Instance) → WellFormed I → {Q : Partial} → Placed I Q → (i : ℕ) (c : RulesColour) (s : ℕ) → IsTrial aware I Q i c s
+    → finish_on I i c s ≤ last_tick
+finish-bound I W {Q} p i c s T =
+    let r = placed-sound I W p in
+    let z = placed-sound I W (placed i c s p T) in
+    let q = free-processor I Q c s (W.processors c).least (omega (arith, (starts aware I Q i c s T.earliest).start)) in
+    let e = slot-exists I c (chosen_processor I Q c s) (processor_law I Q c s q.0 q.1 q.2).0 in
+    omega (
+      arith,
+      z.1.last_bound (slot_for I Q c s),
+      last-here I Q i c s (omega (arith, e, r.1.slots)),
+      z.1.count,
+      count-waits I (assign I Q i c s).schedule,
+      W.tasks.most,
+    )
 
 -- ---- nothing placed
 

@@ -5,8 +5,10 @@ use mathlib.Core.List.{List}
 use mathlib.Core.Path.{◌≡◌, refl, sym, ap, ◌∙◌}
 use native.Mathlib.Omega.{arith}
 use lib.Dec.{leb, eqb}
+use Rattle.std.specs.Prelude.{Option, None, Some, IsSome}
+use Rattle.std.specs.Option.{unwrap_or}
 use Rattle.rules.specs.Count.{max_where}
-use Rattle.rules.specs.Limits.{processor_counts}
+use Rattle.rules.specs.Limits.{processor_counts, all_processors}
 use Rattle.rules.specs.Model as Rules
 use Rattle.rules.specs.Model.{Instance, side_of}
 use Rattle.rules.specs.Scheduling.{Partial, slot_of, last_finish_on, free_by, latest_free, chosen_processor, processor_start}
@@ -16,7 +18,7 @@ use Rattle.model.specs.declared.layout.Shape.{Shape}
 use Rattle.model.specs.declared.colour.Colour.{Colour}
 use Rattle.model.specs.declared.colour.Colour.TheVariants.{Blue, Red}
 use Rattle.model.specs.Colours.{as_colour}
-use Rattle.model.specs.Layout.{Job, Entries, instance_from, partial_from, count_in, Processors, last_length}
+use Rattle.model.specs.Layout.{Job, Entries, instance_from, partial_from, count_in, Processors}
 use Rattle.model.proofs.LayoutLaws.{processors-of, last-finish-at}
 use Rattle.model.proofs.StepLaws.{max-turn}
 use Rattle.placement.specs.Slots.{slot_in, last_in}
@@ -41,10 +43,10 @@ count-some f Red = f.red.least
 
 -- the slot, by the two cases of a colour
 module _ {b : Shape} (f : Processors b) (p : ℕ) where
-  pub slot-blue : {x : Colour} → x ≡ Blue → p < count_in b x → (p ≡ slot_in b x p) × (p < last_length)
+  pub slot-blue : {x : Colour} → x ≡ Blue → p < count_in b x → (p ≡ slot_in b x p) × (p < all_processors)
   slot-blue {x} e h = rw e (refl, omega (arith, count_most f x, f.blue.most))
 
-  pub slot-red : {x : Colour} → x ≡ Red → p < count_in b x → (b.board.blue.processors + p ≡ slot_in b x p) × (b.board.blue.processors + p < last_length)
+  pub slot-red : {x : Colour} → x ≡ Red → p < count_in b x → (b.board.blue.processors + p ≡ slot_in b x p) × (b.board.blue.processors + p < all_processors)
   slot-red {x} e h = rw e (refl, omega (arith, count_most f x, f.blue.most))
 
 module _ (b : Shape) (xs : List ℕ) (x : Colour) (s : ℕ) where
@@ -104,3 +106,11 @@ module _ (b : Shape) (xs : List ℕ) (x : Colour) (s : ℕ) where
         let n : (side_of I c).processors ≡ count_in b x = processors-of b J x in
         let q = free-processor I Q c s (omega (arith, count-some f x)) free in
         omega (arith, (processor_law I Q c s q.0 q.1 q.2).0)
+
+    -- so the code's answer is there, and is that one
+    pub chosen-some : Processors b → processor_start I Q c ≤ s → (o : Option ℕ) → unwrap_or o (count_in b x) ≡ chosen_processor I Q c s → IsSome o
+    chosen-some f free None e = absurd (omega (arith, chosen-exists f free e))
+    chosen-some f free (Some p) e = refl
+
+    pub chosen-is : {o : Option ℕ} {p : ℕ} → o ≡ Some p → unwrap_or o (count_in b x) ≡ chosen_processor I Q c s → p ≡ chosen_processor I Q c s
+    chosen-is q e = rw q at e

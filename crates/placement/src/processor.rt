@@ -1,59 +1,54 @@
 // The processor that a task gets: of those free by its start, the first of those with the latest last finish.
-ghost use Rattle.std.specs.Prelude.{◌≡◌, ◌&&◌, ◌<◌, leb, eqb};
+ghost use Rattle.std.specs.Prelude.{◌≡◌, ◌&&◌, ◌<◌, leb, eqb, IfSome};
+ghost use Rattle.std.specs.Option.{unwrap_or};
 ghost use Rattle.rules.specs.Count.{max_where};
+ghost use Rattle.rules.specs.Limits.{all_processors};
 ghost use Rattle.rules.specs.Scheduling.{chosen_processor};
 ghost use Rattle.model.specs.Colours.{as_colour};
-ghost use Rattle.model.specs.Layout.{Job, Entries, last_length, instance_from, partial_from, count_in, Processors};
+ghost use Rattle.model.specs.Jobs.{instance_in};
+ghost use Rattle.model.specs.Layout.{Entries, partial_from, count_in};
 ghost use Rattle.placement.specs.Slots.{slot_in, last_in};
 
 use model::colour::{Colour, by_colour};
-use model::layout;
-use model::layout::Shape;
+use model::finishes::Finishes;
+use model::job::Job;
 
 // The processors of the colour.
-fn count_in(shape: Shape, colour: Colour) -> usize
-    ensures { result ≡ count_in shape colour }
+fn count_in(job: &Job, colour: Colour) -> usize
+    ensures { result ≡ count_in job.now.shape colour }
 {
-    by_colour(
-        colour,
-        shape.board.blue.processors,
-        shape.board.red.processors,
-    ) as usize
+    let board = job.shape.board;
+    by_colour(colour, board.blue.processors, board.red.processors) as usize
 }
 
 // The place among the last finishes of the colour's processor p, counted from 0 within the colour.
-pub fn slot_in(shape: Shape, colour: Colour, p: usize) -> usize
-    requires processors { Processors shape }
-    requires p_bound { p < count_in shape colour }
-    ensures value { result ≡ slot_in shape colour p }
-    ensures upper_bound { result < last_length }
+pub fn slot_in(job: &Job, colour: Colour, p: usize) -> usize
+    requires { p < count_in job.now.shape colour }
+    ensures value { result ≡ slot_in job.now.shape colour p }
+    ensures upper_bound { result < all_processors }
 {
     match colour {
         Colour::Blue => p,
-        Colour::Red => shape.board.blue.processors as usize + p,
+        Colour::Red => job.shape.board.blue.processors as usize + p,
     }
 }
 
 // The finish of the last run placed on that processor.
-fn last_in(shape: Shape, last: &[u64; layout::LAST], colour: Colour, p: usize) -> u64
-    requires processors { Processors shape }
-    requires p_bound { p < count_in shape colour }
-    ensures { result ≡ last_in shape last.now colour p }
+fn last_in(job: &Job, finishes: &Finishes, colour: Colour, p: usize) -> u64
+    requires { p < count_in job.now.shape colour }
+    ensures { result ≡ last_in job.now.shape finishes.now colour p }
 {
-    let slot = slot_in(shape, colour, p);
-    last[slot]
+    finishes.of(slot_in(job, colour, p))
 }
 
 // The latest last finish of the colour's processors that are free by the start; 0 if there are none.
-fn latest_in(shape: Shape, last: &[u64; layout::LAST], colour: Colour, start: u64) -> u64
-    requires { Processors shape }
-    ensures { result ≡
-        max_where (count_in shape colour) (λ p. leb (last_in shape last.now colour p) start) (last_in shape last.now colour) }
+fn latest_in(job: &Job, finishes: &Finishes, colour: Colour, start: u64) -> u64
+    ensures { result ≡ max_where (count_in job.now.shape colour)
+        (λ p. leb (last_in job.now.shape finishes.now colour p) start) (last_in job.now.shape finishes.now colour) }
 {
-    let n = count_in(shape, colour);
     let mut most: u64 = 0;
-    for p in 0..n {
-        let finish = last_in(shape, last, colour, p);
+    for p in 0..count_in(job, colour) {
+        let finish = last_in(job, finishes, colour, p);
         if finish <= start {
             most = most.max(finish);
         }
@@ -68,18 +63,17 @@ fn is_latest_free(finish: u64, start: u64, latest: u64) -> bool
     finish <= start && finish == latest
 }
 
-// The processor chosen, counted from 0 within the colour; their number if none is free by the start, as the rules have it.
-pub fn chosen_processor(shape: Shape, last: &[u64; layout::LAST], colour: Colour, start: u64) -> u64
-    requires { Processors shape }
-    ensures { (J : Job) (L : Entries) → result ≡
-        chosen_processor (instance_from shape J) (partial_from shape L last.now) (as_colour colour) start }
+// The processor chosen, counted from 0 within the colour, if one is free by the start. The rules have the colour's count for none.
+pub fn chosen_processor(job: &Job, finishes: &Finishes, colour: Colour, start: u64) -> Option<usize>
+    ensures value { (L : Entries) → unwrap_or result (count_in job.now.shape colour) ≡
+        chosen_processor (instance_in job.now) (partial_from job.now.shape L finishes.now) (as_colour colour) start }
+    ensures exists { IfSome result (λ p. p < count_in job.now.shape colour) }
 {
-    let n = count_in(shape, colour);
-    let latest = latest_in(shape, last, colour, start);
-    for p in 0..n {
-        if is_latest_free(last_in(shape, last, colour, p), start, latest) {
-            return p as u64;
+    let latest = latest_in(job, finishes, colour, start);
+    for p in 0..count_in(job, colour) {
+        if is_latest_free(last_in(job, finishes, colour, p), start, latest) {
+            return Some(p);
         }
     }
-    n as u64
+    None
 }

@@ -1,11 +1,11 @@
 // One task placed.
-ghost use Rattle.std.specs.Prelude.{◌≡◌, ◌<◌, ◌≤◌, length};
+ghost use Rattle.std.specs.Prelude.{◌≡◌, ◌<◌, ◌≤◌};
 ghost use Rattle.rules.specs.Model.{blue, red};
 ghost use Rattle.rules.specs.Promises.{WellFormed, Trial as IsTrial};
-ghost use Rattle.rules.specs.Scheduling.{aware, processor_start, assign as rules-assign};
+ghost use Rattle.rules.specs.Scheduling.{aware, processor_start, finish_on, assign as rules-assign};
 ghost use Rattle.rules.specs.Staircase.{Placed};
 ghost use Rattle.model.specs.Colours.{as_colour};
-ghost use Rattle.model.specs.Layout.{WholeSchedule, last_length, schedule_of, partial_of, last_start};
+ghost use Rattle.model.specs.Layout.{WholeSchedule, schedule_of, partial_of, last_start, last_tick};
 ghost use Rattle.model.specs.Jobs.{instance_in};
 ghost use Rattle.staircase.specs.Stairs.{HoldsStairs};
 ghost use Rattle.placement.specs.Memory.{SizesOf};
@@ -15,30 +15,29 @@ use super::moves::set_moves;
 use super::processor::{chosen_processor, slot_in};
 use links::Links;
 use model::colour::ByColour;
+use model::finishes::Finishes;
 use model::layout;
 use model::trial::Trial;
 use staircase::Staircase;
 
 // The trial's task in the timetable: the moves, the run and the last finish of its processor.
-fn assign(
-    links: &Links,
-    schedule: &mut layout::Schedule,
-    last: &mut [u64; layout::LAST],
-    trial: Trial,
-)
-    requires schedule_len { WholeSchedule schedule.old × (length last.old ≡ last_length) }
+fn assign(links: &Links, schedule: &mut layout::Schedule, finishes: &mut Finishes, trial: Trial)
+    requires schedule_len { WholeSchedule schedule.old }
     requires i_lt_tasks { (trial.task < links.now.job.shape.tasks) × (trial.start ≤ last_start) }
-    requires colour_bound { processor_start (instance_in links.now.job) (partial_of links.now.job.shape schedule.old last.old) (as_colour trial.colour) ≤ trial.start }
-    ensures schedule_len_2 { WholeSchedule schedule.new × (length last.new ≡ last_length) }
-    ensures last_after { partial_of links.now.job.shape schedule.new last.new ≡
-        rules-assign (instance_in links.now.job) (partial_of links.now.job.shape schedule.old last.old) trial.task (as_colour trial.colour) trial.start }
+    requires colour_bound { processor_start (instance_in links.now.job) (partial_of links.now.job.shape schedule.old finishes.old) (as_colour trial.colour)
+        ≤ trial.start }
+    requires finish_bound { finish_on (instance_in links.now.job) trial.task (as_colour trial.colour) trial.start ≤ last_tick }
+    ensures schedule_len_2 { WholeSchedule schedule.new }
+    ensures finishes_after { partial_of links.now.job.shape schedule.new finishes.new ≡
+        rules-assign (instance_in links.now.job) (partial_of links.now.job.shape schedule.old finishes.old)
+        trial.task (as_colour trial.colour) trial.start }
 {
     set_moves(links, schedule, trial);
-    let p = chosen_processor(links.job.shape, last, trial.colour, trial.start) as usize;
-    let slot = slot_in(links.job.shape, trial.colour, p);
+    let p = chosen_processor(&links.job, finishes, trial.colour, trial.start).unwrap();
+    let slot = slot_in(&links.job, trial.colour, p);
     layout::set_run(schedule, trial.task, slot as u64 + 1, trial.start);
     let finish = trial.start + links.job.run_time(trial.task, trial.colour);
-    last[slot] = finish;
+    finishes.set(slot, finish);
 }
 
 // The trial's task placed: in both memories' staircases, and in the timetable. Before and after it each memory's list of pairs equals
@@ -46,29 +45,30 @@ fn assign(
 pub fn place(
     links: &Links,
     schedule: &mut layout::Schedule,
-    last: &mut [u64; layout::LAST],
+    finishes: &mut Finishes,
     stairs: &mut ByColour<Staircase>,
     trial: Trial,
     sizes: Sizes,
 )
     requires well_formed { WellFormed (instance_in links.now.job) }
-    requires schedule_len { WholeSchedule schedule.old × (length last.old ≡ last_length) }
-    requires placed { Placed (instance_in links.now.job) (partial_of links.now.job.shape schedule.old last.old) }
-    requires trial { IsTrial aware (instance_in links.now.job) (partial_of links.now.job.shape schedule.old last.old) trial.task (as_colour trial.colour) trial.start
-        × (trial.start ≤ last_start) }
+    requires schedule_len { WholeSchedule schedule.old }
+    requires placed { Placed (instance_in links.now.job) (partial_of links.now.job.shape schedule.old finishes.old) }
+    requires trial { IsTrial aware (instance_in links.now.job) (partial_of links.now.job.shape schedule.old finishes.old)
+        trial.task (as_colour trial.colour) trial.start × (trial.start ≤ last_start) }
     requires sizes_of { SizesOf (instance_in links.now.job) (schedule_of links.now.job.shape schedule.old) trial sizes }
     requires holds_stairs { HoldsStairs (instance_in links.now.job) (schedule_of links.now.job.shape schedule.old) blue stairs.old.blue }
     requires holds_stairs_2 { HoldsStairs (instance_in links.now.job) (schedule_of links.now.job.shape schedule.old) red stairs.old.red }
-    ensures schedule_len_2 { WholeSchedule schedule.new × (length last.new ≡ last_length) }
-    ensures last_after { partial_of links.now.job.shape schedule.new last.new ≡
-        rules-assign (instance_in links.now.job) (partial_of links.now.job.shape schedule.old last.old) trial.task (as_colour trial.colour) trial.start }
+    ensures schedule_len_2 { WholeSchedule schedule.new }
+    ensures finishes_after { partial_of links.now.job.shape schedule.new finishes.new ≡
+        rules-assign (instance_in links.now.job) (partial_of links.now.job.shape schedule.old finishes.old)
+        trial.task (as_colour trial.colour) trial.start }
     ensures holds_stairs_3 { HoldsStairs (instance_in links.now.job)
-        (rules-assign (instance_in links.now.job) (partial_of links.now.job.shape schedule.old last.old) trial.task (as_colour trial.colour) trial.start).schedule
-        blue stairs.new.blue }
+        (rules-assign (instance_in links.now.job) (partial_of links.now.job.shape schedule.old finishes.old)
+        trial.task (as_colour trial.colour) trial.start).schedule blue stairs.new.blue }
     ensures holds_stairs_4 { HoldsStairs (instance_in links.now.job)
-        (rules-assign (instance_in links.now.job) (partial_of links.now.job.shape schedule.old last.old) trial.task (as_colour trial.colour) trial.start).schedule
-        red stairs.new.red }
+        (rules-assign (instance_in links.now.job) (partial_of links.now.job.shape schedule.old finishes.old)
+        trial.task (as_colour trial.colour) trial.start).schedule red stairs.new.red }
 {
     both_memories(links, schedule, stairs, Placing { trial, sizes });
-    assign(links, schedule, last, trial);
+    assign(links, schedule, finishes, trial);
 }

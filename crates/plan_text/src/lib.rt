@@ -58,7 +58,7 @@ pub fn plan_instance(rule: Rule, job: &Job, out: &mut [u8]) -> Answer
     ensures { as_answer result out.new ≡ plan_on (as_planner rule) (instance_in job.now) out.old }
 {
     let mut schedule = layout::Schedule::new();
-    let outcome = planner::run(rule, job.shape, job.numbers, &mut schedule);
+    let outcome = planner::run(rule, job, &mut schedule);
     let trials = outcome.trials;
     match outcome.claim {
         Ok(claim) => Answer {

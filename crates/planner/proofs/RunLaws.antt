@@ -22,8 +22,8 @@ use Rattle.model.specs.declared.layout.Shape.{Shape}
 use Rattle.model.specs.declared.colour.Colour.{Colour}
 use Rattle.model.specs.declared.colour.Colour.TheVariants.{Blue, Red}
 use Rattle.model.specs.Colours.{as_colour}
-use Rattle.model.specs.Layout.{Job, Entries, instance_from, schedule_from, partial_from, Bounds, LastBounds}
-use Rattle.model.proofs.LayoutLaws.{task-count, file-count, limit-of, run-at, move-at, last-finish-at, job-bounds}
+use Rattle.model.specs.Layout.{Job, Entries, instance_from, schedule_from, partial_from, Bounds}
+use Rattle.model.proofs.LayoutLaws.{task-count, file-count, limit-of, run-at, move-at, job-bounds}
 use Rattle.std.specs.Prelude.{Option, None, Some}
 use Rattle.rules.specs.Staircase.{Step}
 use Rattle.model.specs.declared.colour.ByColour.{ByColour}
@@ -66,9 +66,6 @@ module _ (b : Shape) (J : Job) (W : WellFormed (instance_from b J)) (L : Entries
       move_start = λ k h. omega (arith, move-at b L k h, move_bound (instance_from b J) placed (partial_from b L last) S k (omega (arith, file-count b J)), few);
     };
   }
-
-  pub sound-last : LastBounds b last
-  sound-last q h = omega (arith, last-finish-at b L last q h, S.last_bound q, few)
 
   pub sound-ticks : (c : RulesColour) {ss : List Step} → HoldsStairs (instance_from b J) (schedule_from b L) c ss → TicksWithin ss
   sound-ticks c H = record {
@@ -120,9 +117,6 @@ module _ (R : Planner) (b : Shape) (J : Job) (W : WellFormed (instance_from b J)
     Q = partial_from b L last
 
     -- ---- what a round asks
-
-    pub planning-last : LastBounds b last
-    planning-last = sound-last b J W L last p.sound p.most
 
     pub planning-stairs : StairsBounds stairs
     planning-stairs = record {

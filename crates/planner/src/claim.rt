@@ -5,27 +5,27 @@ ghost use Rattle.rules.specs.Model.{processor_count};
 ghost use Rattle.rules.specs.Staircase.{least_free};
 ghost use Rattle.rules.specs.Validity.{Complete, true_claim};
 ghost use Rattle.model.specs.Claims.{as_claim};
-ghost use Rattle.model.specs.Layout.{Job, Entries, instance_from, partial_from, schedule_from, Processors};
+ghost use Rattle.model.specs.Jobs.{instance_in};
+ghost use Rattle.model.specs.Layout.{Entries, partial_from, schedule_from};
 ghost use Rattle.needs.specs.declared.table.Needs.{Needs};
 ghost use Rattle.starts.specs.Kept.{Kept};
 ghost use Rattle.planner.specs.Outcomes.{FreeWithin};
 
 use model::claim::Claim;
 use model::colour::ByColour;
-use model::layout;
-use model::layout::Shape;
+use model::finishes::Finishes;
+use model::job::Job;
 use staircase::Staircase;
 
 // The latest of the last finishes.
-fn latest_finish(shape: Shape, last: &[u64; layout::LAST]) -> u64
-    requires { Processors shape }
-    ensures { (J : Job) (L : Entries) → result ≡
-        max_below (processor_count (instance_from shape J)) (λ p. get_or (partial_from shape L last.now).last_finish p 0) }
+fn latest_finish(job: &Job, finishes: &Finishes) -> u64
+    ensures { (L : Entries) → result ≡
+        max_below (processor_count (instance_in job.now)) (λ p. get_or (partial_from job.now.shape L finishes.now).last_finish p 0) }
 {
-    let n = (shape.board.blue.processors + shape.board.red.processors) as usize;
+    let board = job.shape.board;
     let mut most: u64 = 0;
-    for finish in &last[..n] {
-        most = most.max(*finish);
+    for p in 0..(board.blue.processors + board.red.processors) as usize {
+        most = most.max(finishes.of(p));
     }
     most
 }
@@ -39,17 +39,16 @@ fn peak(limit: u64, staircase: &Staircase) -> u64
 }
 
 // What a complete schedule has to claim, from what is kept beside it.
-pub fn claim_from(shape: Shape, last: &[u64; layout::LAST], stairs: &ByColour<Staircase>) -> Claim
-    requires processors { Processors shape }
-    requires free_within { FreeWithin shape.board.blue.limit stairs.now.blue × FreeWithin shape.board.red.limit stairs.now.red }
-    ensures { (J : Job) (L : Entries) (needs : Needs) →
-        Kept (instance_from shape J) (partial_from shape L last.now) needs stairs.now →
-        Complete (instance_from shape J) (schedule_from shape L) →
-        as_claim result ≡ true_claim (instance_from shape J) (schedule_from shape L) }
+pub fn claim_from(job: &Job, finishes: &Finishes, stairs: &ByColour<Staircase>) -> Claim
+    requires { FreeWithin job.now.shape.board.blue.limit stairs.now.blue × FreeWithin job.now.shape.board.red.limit stairs.now.red }
+    ensures { (L : Entries) (needs : Needs) →
+        Kept (instance_in job.now) (partial_from job.now.shape L finishes.now) needs stairs.now →
+        Complete (instance_in job.now) (schedule_from job.now.shape L) →
+        as_claim result ≡ true_claim (instance_in job.now) (schedule_from job.now.shape L) }
 {
     Claim {
-        span: latest_finish(shape, last),
-        blue_peak: peak(shape.board.blue.limit, &stairs.blue),
-        red_peak: peak(shape.board.red.limit, &stairs.red),
+        span: latest_finish(job, finishes),
+        blue_peak: peak(job.shape.board.blue.limit, &stairs.blue),
+        red_peak: peak(job.shape.board.red.limit, &stairs.red),
     }
 }

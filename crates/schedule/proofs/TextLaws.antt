@@ -1,20 +1,21 @@
 -- The text of a timetable as pieces: a line for each task, a line or nothing for each file, and the claim's line.
-use Prim.Native.Nat.{ℕ, suc, ◌+◌, ◌≤◌, ◌<◌}
+use Prim.Native.Nat.{ℕ, suc, ◌+◌, ◌*◌, ◌≤◌, ◌<◌}
 use mathlib.Core.Path.{◌≡◌, ◌∙◌}
 use mathlib.Core.Bool.{true, false}
 use mathlib.Core.List.{List, [], ◌++◌, append_assoc}
 use native.Mathlib.Numerals.{add-one}
-use lib.ListN.{length}
+use native.Mathlib.Omega.{arith}
+use lib.ListN.{length, length-append}
+use Rattle.rules.specs.Limits.{max_tasks, max_files}
 use Rattle.rules.specs.Model.{Instance, Schedule, file_at, run_at, move_at, moved}
 use Rattle.rules.specs.Text.{lf}
 use Rattle.rules.specs.Validity.{Claim}
 use Rattle.rules.specs.ScheduleText.{run_line, move_line, claim_line, schedule_bytes, run_lines, move_lines, schedule_text}
 use Rattle.rules.proofs.ScheduleTextLaws.{move_bytes, runs-next, moves_more, text-parts}
-use Rattle.text.proofs.SizeLaws.{three-length}
-use Rattle.text.proofs.LaidLaws.{Fits, three-fit}
 use Rattle.model.specs.declared.layout.Shape.{Shape}
 use Rattle.model.specs.Layout.{Job, Entries, instance_from, schedule_from}
 use Rattle.model.proofs.LayoutLaws.{task-count, file-count, run-at, move-at}
+use Rattle.schedule.specs.Sizes.{longest}
 
 -- the piece of task i, and the piece of file k
 abbrev pub run_piece : Schedule → ℕ → List ℕ
@@ -66,8 +67,8 @@ module _ (b : Shape) (J : Job) (L : Entries) (c : Claim) where
   abbrev last_part : List ℕ
   last_part = schedule_bytes (claim_line c) ++ lf
 
-  pub text-length : (r m l : ℕ) → r ≡ length runs_part → m ≡ length moves_part → l ≡ length last_part → r + m + l ≡ length (schedule_text I P c)
-  text-length r m l p q s = rw (text-pieces b J L c) (three-length runs_part moves_part last_part p q s)
-
-  pub text-fits : (n : ℕ) → length (schedule_text I P c) ≤ n → Fits runs_part moves_part last_part n
-  text-fits n h = three-fit runs_part moves_part last_part (rw (text-pieces b J L c) at h)
+  pub text-short : length runs_part ≤ longest * max_tasks → length moves_part ≤ longest * max_files → length last_part ≤ longest
+      → length (schedule_text I P c) ≤ longest * (max_tasks + max_files + 1)
+  text-short p q s =
+      rw (text-pieces b J L c)
+      (omega (arith, length-append (runs_part ++ moves_part) last_part, length-append runs_part moves_part, p, q, s))

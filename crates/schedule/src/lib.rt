@@ -1,11 +1,9 @@
-// The timetable's text: its due lines read into a schedule array, and written from one.
+// The timetable's text: its due lines read into a schedule, and written from one.
 #![tactic(auto)]
 
 mod lines;
 mod reader;
-mod size;
 mod writer;
 
 pub use reader::read;
-pub use size::schedule_size;
-pub use writer::write;
+pub use writer::{schedule_size, write};

@@ -91,26 +91,17 @@ pub fn next_line<'a>(job: &Job<'_>, paper: &'a [u8]) -> Result<Taken<'a, Line>, 
     if let Some(found) = text::line_by(&MOVE_WORD, &THREE_NUMBERS, paper) {
         let [i, j, start, _] = found.numbers;
         let value = move_of(i, j, start)?;
-        return Ok(Taken {
-            value,
-            rest: found.rest,
-        });
+        return Ok(found.with(value));
     }
     if let Some(found) = text::line_by(&RUN_WORD, &THREE_NUMBERS, paper) {
         let [i, processor, start, _] = found.numbers;
         let value = run_of(job, i, processor, start)?;
-        return Ok(Taken {
-            value,
-            rest: found.rest,
-        });
+        return Ok(found.with(value));
     }
     let Some(found) = text::line_by(&CLAIM_WORD, &THREE_NUMBERS, paper) else {
         return Err(Fault::Malformed);
     };
     let [span, blue_peak, red_peak, _] = found.numbers;
     let value = claim_of(span, blue_peak, red_peak)?;
-    Ok(Taken {
-        value,
-        rest: found.rest,
-    })
+    Ok(found.with(value))
 }

@@ -43,10 +43,7 @@ fn due_run<'a>(job: &Job<'_>, paper: &'a [u8], task: u64) -> Result<Taken<'a, Ru
         return Err(Fault::Undue);
     }
     let value = Run { processor, start };
-    Ok(Taken {
-        value,
-        rest: next.rest,
-    })
+    Ok(next.with(value))
 }
 
 // The move of a file from task `maker` to task `reader`, counted from 1, is due.
@@ -66,10 +63,7 @@ fn due_move<'a>(
     if i != maker || j != reader {
         return Err(Fault::Undue);
     }
-    Ok(Taken {
-        value: start,
-        rest: next.rest,
-    })
+    Ok(next.with(start))
 }
 
 // The claim is due.
@@ -81,10 +75,7 @@ fn due_claim<'a>(job: &Job<'_>, paper: &'a [u8]) -> Result<Taken<'a, Claim>, Fau
     let Line::Claim { claim } = said else {
         return Err(Fault::Undue);
     };
-    Ok(Taken {
-        value: claim,
-        rest: next.rest,
-    })
+    Ok(next.with(claim))
 }
 
 // Reads the runs, a line for each task, into the schedule. What is left is the text behind them.
@@ -160,7 +151,7 @@ pub fn read(job: &Job<'_>, paper: &[u8], schedule: &mut Schedule) -> Result<Clai
     if Board::MAX_TEXT < paper.len() {
         return Err(Refusal::Timetable(Fault::TooLong, 0));
     }
-    let moves = read_runs(job, paper, schedule)?;
-    let claim = read_moves(job, moves, job.shape.tasks as u64 + 1, schedule)?;
-    read_claim(job, claim.rest, claim.line)
+    let behind_runs = read_runs(job, paper, schedule)?;
+    let behind_moves = read_moves(job, behind_runs, job.shape.tasks as u64 + 1, schedule)?;
+    read_claim(job, behind_moves.rest, behind_moves.line)
 }

@@ -3,3 +3,4 @@
 
 pub mod round;
 pub mod trial;
+pub mod trials;

@@ -3,7 +3,8 @@ ghost use Rattle.std.specs.Prelude.{◌≡◌, ◌≤◌, ℕ, IfSome};
 ghost use Rattle.rules.specs.Model.{Instance};
 ghost use Rattle.rules.specs.Scheduling.{Partial, processor_start, earliest_start};
 ghost use Rattle.model.specs.Colours.{as_colour};
-ghost use Rattle.model.specs.Layout.{Job, Entries, instance_from, partial_from, Processors, LastBounds, last_tick, last_start};
+ghost use Rattle.model.specs.Jobs.{instance_in};
+ghost use Rattle.model.specs.Layout.{Entries, partial_from, last_tick, last_start};
 ghost use Rattle.staircase.specs.Steps.{as_option};
 ghost use Rattle.needs.specs.Needs.{NeedBounds};
 ghost use Rattle.starts.specs.Memories.{as_memory};
@@ -11,25 +12,23 @@ ghost use Rattle.starts.specs.Kept.{TicksWithin, Tried};
 
 use super::memory::{Memory, memory_start};
 use model::colour::{Colour, by_colour};
-use model::layout;
-use model::layout::Shape;
+use model::finishes::Finishes;
+use model::job::Job;
 use needs::table::Need;
 use staircase::Staircase;
 
 // Start 1: the least last finish of the colour's processors.
-pub fn processor_start(shape: Shape, last: &[u64; layout::LAST], colour: Colour) -> u64
-    requires processors { Processors shape }
-    requires last_bounds { LastBounds shape last.now }
-    ensures value { (J : Job) (L : Entries) → result ≡ processor_start (instance_from shape J) (partial_from shape L last.now) (as_colour colour) }
+pub fn processor_start(job: &Job, finishes: &Finishes, colour: Colour) -> u64
+    ensures value { (L : Entries) → result ≡
+        processor_start (instance_in job.now) (partial_from job.now.shape L finishes.now) (as_colour colour) }
     ensures upper_bound { result ≤ last_tick }
 {
-    let blue = shape.board.blue.processors;
-    let first = by_colour(colour, 0, blue);
-    let count = by_colour(colour, blue, shape.board.red.processors);
-    let at = first as usize;
-    let mut least = last[at];
-    for i in 1..count {
-        least = least.min(last[(first + i) as usize]);
+    let blue = job.shape.board.blue.processors;
+    let first = by_colour(colour, 0, blue) as usize;
+    let count = by_colour(colour, blue, job.shape.board.red.processors) as usize;
+    let mut least = finishes.of(first);
+    for p in 1..count {
+        least = least.min(finishes.of(first + p));
     }
     least
 }

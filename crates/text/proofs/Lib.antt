@@ -1,5 +1,5 @@
 -- The laws that the proofs of this crate cite, in the order to read them. Other crates cite those of PartLaws, FirstLineLaws, CutLaws,
--- DueLaws, WroteLaws, SizeLaws and LaidLaws.
+-- DueLaws, SizeLaws and SinkLaws.
 pub mod PartLaws
 -- reading
 pub mod FrontLaws
@@ -12,8 +12,7 @@ pub mod DueLaws
 -- writing
 pub mod WroteLaws
 pub mod WriteNumeralLaws
-pub mod FillLaws
--- many lines: their length and their bytes
-pub mod SizeLaws
-pub mod LaidLaws
+-- pieces, one behind the other: a form's, and a text's lines
 pub mod SinkLaws
+pub mod FillLaws
+pub mod SizeLaws

@@ -1,6 +1,6 @@
 -- How long a line is, and the loops that add up the lengths of pieces.
 use Prim.Native.Nat.{ℕ, zero, suc, ◌+◌, ◌*◌, ◌^◌, ◌≤◌, ◌<◌}
-use mathlib.Core.Path.{◌≡◌, sym, ap, ◌∙◌}
+use mathlib.Core.Path.{◌≡◌, ap}
 use mathlib.Core.List.{List, [], ◌∷◌, ◌++◌}
 use native.Mathlib.Nat.{mul-suc}
 use native.Mathlib.Numerals.{add-one}
@@ -41,36 +41,17 @@ fill-short (s ∷ form) vs h =
 pub line-short : (form : List ℕ) {vs : List ℕ} → Words vs → length (fill form vs ++ lf) ≤ 20 * length form + 1
 line-short form {vs} h = omega (arith, length-append (fill form vs) lf, fill-short form vs h)
 
--- ---- the pieces before i, each of at most `most` bytes, are counted: n bytes
-pub record Counted (most : ℕ) (f : ℕ → List ℕ) (all n i : ℕ) : Type 0 where
-  pub passed : i ≤ all
-  pub count : n ≡ length (f i)
-  pub bound : n ≤ most * i
+-- ---- the pieces before i, each of at most `most` bytes, and one more
+module _ (most : ℕ) (f g : ℕ → List ℕ) (grow : (i : ℕ) → f (suc i) ≡ f i ++ g i) (i : ℕ) (h : length (f i) ≤ most * i) where
+  piece-more : length (g i) ≤ most → length (f (i + 1)) ≤ most * (i + 1)
+  piece-more l = rw (add-one i, mul-suc most i) (omega (arith, ap length (grow i), length-append (f i) (g i)))
 
-pub counted_none : (most : ℕ) (f : ℕ → List ℕ) (all : ℕ) → f 0 ≡ [] → Counted most f all 0 0
-counted_none most f all e = record { passed = omega arith; count = sym (ap length e); bound = omega arith }
+  -- the piece is w
+  pub piece-short : (w : List ℕ) → w ≡ g i → length w ≤ most → length (f (i + 1)) ≤ most * (i + 1)
+  piece-short w e l = piece-more (rw e at l)
 
-module _ (f g : ℕ → List ℕ) (grow : (i : ℕ) → f (suc i) ≡ f i ++ g i) {most all n i : ℕ} (q : Counted most f all n i) where
-  more : length (f (suc i)) ≡ n + length (g i)
-  more = ap length (grow i) ∙ length-append (f i) (g i) ∙ ap (λ (m : ℕ). m + length (g i)) (sym q.count)
-
-  -- a piece is w, of r bytes
-  pub counted_next : i < all → (w : List ℕ) → w ≡ g i → (r : ℕ) → r ≡ length w → r ≤ most → Counted most f all (n + r) (i + 1)
-  counted_next h w e r c l =
-      rw (add-one i)
-      (record { passed = h; count = omega (arith, more, ap length e); bound = rw (mul-suc most i) (omega (arith, q.bound)) })
-
-  pub counted_skip : i < all → g i ≡ [] → Counted most f all n (i + 1)
-  counted_skip h e =
-      rw (add-one i)
-      (record { passed = h; count = omega (arith, more, ap length e); bound = rw (mul-suc most i) (omega (arith, q.bound)) })
-
-  pub counted-all : all ≤ i → n ≡ length (f all)
-  counted-all h = let e : i ≡ all = omega (arith, q.passed) in q.count ∙ ap (λ (m : ℕ). length (f m)) e
-
--- ---- three pieces, one behind the other: r, m and l bytes
-pub three-length : (a b c : List ℕ) {r m l : ℕ} → r ≡ length a → m ≡ length b → l ≡ length c → r + m + l ≡ length ((a ++ b) ++ c)
-three-length a b c p q s = omega (arith, length-append (a ++ b) c, length-append a b)
+  pub no-piece-short : g i ≡ [] → length (f (i + 1)) ≤ most * (i + 1)
+  no-piece-short e = piece-more (rw e (omega arith))
 
 -- ---- pieces of at most `most` bytes each
 pub pieces-short : (most : ℕ) (f g : ℕ → List ℕ) → ((i : ℕ) → f (suc i) ≡ f i ++ g i) → f 0 ≡ [] → (n : ℕ) → ((i : ℕ) → i < n → length (g i) ≤ most)

@@ -1,5 +1,5 @@
 -- What a sink of lines holds.
-use Rattle.std.specs.Prelude.{ℕ, ◌+◌, ◌^◌, ◌<◌, ◌≤◌, ◌≡◌, List, [], ◌++◌, length, take, drop}
+use Rattle.std.specs.Prelude.{ℕ, ◌+◌, ◌-◌, ◌^◌, min, ◌<◌, ◌≤◌, ◌≡◌, List, [], ◌++◌, length, take, drop}
 use Rattle.std.proofs.Common.{arith, sym, ap, ◌∙◌, append_assoc, add-zero, take-append-drop}
 use Rattle.std.proofs.Math.ListN.{length-append, length-drop}
 use Rattle.std.proofs.Math.Seq.{take_at, drop_at, drop-drop, length-take-le}
@@ -10,17 +10,18 @@ pub record LaidBetween (at : ℕ) (old a : List ℕ) (end : ℕ) (new : List ℕ
   pub within : at + length a ≤ length old
   pub bytes : new ≡ take at old ++ (a ++ drop (at + length a) old)
 
-pub counted_none : (n : ℕ) → n ≡ n + length {A = ℕ} []
-counted_none n = omega arith
+-- n bytes, and the text a: no count is greater than the greatest `usize`
+abbrev pub counted : ℕ → List ℕ → ℕ
+counted n a = min (n + length a) (2 ^ 64 - 1)
 
-pub counted_more : (n m k : ℕ) (a b : List ℕ) → m ≡ n + length a → k ≡ m + length b → k ≡ n + length (a ++ b)
+pub counted_none : (n : ℕ) → n < 2 ^ 64 → n ≡ counted n []
+counted_none n h = omega arith
+
+pub counted_more : (n m k : ℕ) (a b : List ℕ) → m ≡ counted n a → k ≡ counted m b → k ≡ counted n (a ++ b)
 counted_more n m k a b p q = omega (arith, length-append a b)
 
-pub counted_front : (n : ℕ) (a b : List ℕ) → n + length (a ++ b) < 2 ^ 64 → n + length a < 2 ^ 64
-counted_front n a b h = omega (arith, length-append a b)
-
-pub counted_left : (n m : ℕ) (a b : List ℕ) → n + length (a ++ b) < 2 ^ 64 → m ≡ n + length a → m + length b < 2 ^ 64
-counted_left n m a b h p = omega (arith, length-append a b)
+pub counted_left : (n m : ℕ) (a : List ℕ) → m ≡ counted n a → m < 2 ^ 64
+counted_left n m a p = omega arith
 
 parts : (at : ℕ) (l : List ℕ) → l ≡ take at l ++ drop (at + 0) l
 parts at l = sym (rw (add-zero at) (take-append-drop at l))

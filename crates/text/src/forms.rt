@@ -1,19 +1,31 @@
 // Forms: lines in which `#` stands for a number.
-ghost use Rattle.std.specs.Prelude.{◌≡◌, ◌^◌, ◌≤◌, ◌<◌, ◌++◌, true, length, drop, get_or, MatchOption};
-ghost use Rattle.rules.specs.Text.{lf, starts_with, fill};
+ghost use Rattle.std.specs.Prelude.{◌≡◌, ◌++◌, true, drop, MatchOption};
+ghost use Rattle.rules.specs.Text.{starts_with};
 ghost use Rattle.text.specs.Cut.{lineless, Parted, nothing, scan_ended, Cut};
 ghost use Rattle.text.specs.FirstLine.{first_line, Passed};
-ghost use Rattle.text.specs.Wrote.{Wrote};
 
-use crate::numerals::{number, number_size, write_number};
+use crate::lines::Taken;
+use crate::numerals::number;
 
 // What a form finds at the front of a text: the text's first line, without its LF, that line's first four numbers, 0 for each that the form
-// does not have, and the text behind the LF.
+// does not have, and the text behind the LF. The line is handed on as a part of the text, though the readers need its numbers alone.
 #[derive(Clone, Copy)]
 pub struct Found<'a> {
     pub line: &'a [u8],
     pub numbers: [u64; 4],
     pub rest: &'a [u8],
+}
+
+impl<'a> Found<'a> {
+    // A value that was read of the line, and the text behind the line.
+    pub fn with<T>(&self, value: T) -> Taken<'a, T>
+        ensures { (result.value ≡ value) × (result.rest.now ≡ self.now.rest.now) }
+    {
+        Taken {
+            value,
+            rest: self.rest,
+        }
+    }
 }
 
 // Whether the byte `b` stands at a place of `text`.
@@ -68,66 +80,4 @@ pub fn line_by<'a>(word: &[u8], form: &[u8], text: &'a [u8]) -> Option<Found<'a>
         return None;
     }
     line_behind(word.len(), form, text)
-}
-
-// The value at a place, 0 past the last.
-fn value_at(values: &[u64], k: usize) -> u64
-    ensures { result ≡ get_or values.now k 0 }
-{
-    values.get(k).copied().unwrap_or(0)
-}
-
-// How many bytes a form takes with its numbers. A walk of its own, beside `write_form`: nothing is lent to write into, and no room is asked.
-pub fn form_size(form: &[u8], values: &[u64]) -> usize
-    requires { length (fill form.now values.now) < 2 ^ 64 }
-    ensures { result ≡ length (fill form.now values.now) }
-{
-    let mut n = 0;
-    let mut k = 0;
-    for sign in form {
-        if *sign == b'#' {
-            n += number_size(value_at(values, k));
-            k += 1;
-        } else {
-            n += 1;
-        }
-    }
-    n
-}
-
-// Writes a form with its numbers at the front of `out`, and returns how many bytes that takes.
-pub fn write_form(out: &mut [u8], form: &[u8], values: &[u64]) -> usize
-    requires { length (fill form.now values.now) ≤ length out.old }
-    ensures { Wrote (fill form.now values.now) result out.old out.new }
-{
-    let mut at = 0;
-    let mut k = 0;
-    for sign in form {
-        if *sign == b'#' {
-            at += write_number(&mut out[at..], value_at(values, k));
-            k += 1;
-        } else {
-            out[at] = *sign;
-            at += 1;
-        }
-    }
-    at
-}
-
-// How many bytes a form takes with its numbers and LF.
-pub fn line_size(form: &[u8], values: &[u64]) -> usize
-    requires { length (fill form.now values.now ++ lf) < 2 ^ 64 }
-    ensures { result ≡ length (fill form.now values.now ++ lf) }
-{
-    form_size(form, values) + 1
-}
-
-// Writes a form with its numbers, and LF, at the front of `out`, and returns how many bytes that takes.
-pub fn write_line(out: &mut [u8], form: &[u8], values: &[u64]) -> usize
-    requires { length (fill form.now values.now ++ lf) ≤ length out.old }
-    ensures { Wrote (fill form.now values.now ++ lf) result out.old out.new }
-{
-    let n = write_form(out, form, values);
-    out[n] = b'\n';
-    n + 1
 }

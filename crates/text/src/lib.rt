@@ -6,7 +6,7 @@ mod lines;
 mod numerals;
 mod sinks;
 
-pub use forms::{Found, form_size, line_by, line_size, write_form, write_line};
+pub use forms::{Found, line_by};
 pub use lines::{Taken, line_at};
 pub use numerals::{number_size, write_number};
 pub use sinks::{Count, Page, Sink};

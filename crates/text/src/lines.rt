@@ -10,6 +10,18 @@ pub struct Taken<'a, T> {
     pub rest: &'a [u8],
 }
 
+impl<'a, T> Taken<'a, T> {
+    // Another value, and the same text behind it.
+    pub fn with<U>(&self, value: U) -> Taken<'a, U>
+        ensures { (result.value ≡ value) × (result.rest.now ≡ self.now.rest.now) }
+    {
+        Taken {
+            value,
+            rest: self.rest,
+        }
+    }
+}
+
 // The place of the first LF.
 fn first_lf(text: &[u8]) -> Option<usize>
     ensures { result ≡ position (λ b. b == 10) text.now }

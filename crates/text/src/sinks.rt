@@ -1,10 +1,18 @@
 // Where lines go: into lent bytes, each behind the lines already laid down, or nowhere, where their bytes are only counted.
-ghost use Rattle.std.specs.Prelude.{◌≡◌, ◌+◌, ◌^◌, ◌<◌, ◌≤◌, ◌++◌, ℕ, List, [], length, refl};
+ghost use Rattle.std.specs.Prelude.{◌≡◌, ◌+◌, ◌^◌, ◌<◌, ◌≤◌, ◌++◌, ℕ, List, [], ◌∷◌, length, get_or, refl};
 ghost use Rattle.std.proofs.Common.{◌∙◌};
-ghost use Rattle.rules.specs.Text.{lf, fill};
-ghost use Rattle.text.specs.Laid.{LaidBetween, counted_none, counted_more, counted_front, counted_left, page_none, page_more, page_front, page_left};
+ghost use Rattle.rules.specs.Text.{lf, decimal, fill};
+ghost use Rattle.text.specs.Wrote.{Wrote};
+ghost use Rattle.text.specs.Laid.{LaidBetween, counted, counted_none, counted_more, counted_left, page_none, page_more, page_front, page_left};
 
-use crate::forms::{line_size, write_line};
+use crate::numerals::{number_size, write_number};
+
+// The value at a place, 0 past the last.
+fn value_at(values: &[u64], k: usize) -> u64
+    ensures { result ≡ get_or values.now k 0 }
+{
+    values.get(k).copied().unwrap_or(0)
+}
 
 pub trait Sink {
     // there is room for a text
@@ -13,10 +21,40 @@ pub trait Sink {
     // a text was laid down behind what lay there
     ghost laid: { Self → List ℕ → Self → Type 0 };
 
+    // One byte.
+    fn byte(&mut self, byte: u8)
+        requires { room self.old (byte ∷ []) }
+        ensures { laid self.old (byte ∷ []) self.new };
+
+    // A number.
+    fn number(&mut self, value: u64)
+        requires { room self.old (decimal value) }
+        ensures { laid self.old (decimal value) self.new };
+
+    // A form with its numbers.
+    fn form(&mut self, form: &[u8], values: &[u64])
+        requires { room self.old (fill form.now values.now) }
+        ensures { laid self.old (fill form.now values.now) self.new }
+    {
+        let mut k = 0;
+        for sign in form {
+            if *sign == b'#' {
+                self.number(value_at(values, k));
+                k += 1;
+            } else {
+                self.byte(*sign);
+            }
+        }
+    }
+
     // A form with its numbers, and LF.
     fn line(&mut self, form: &[u8], values: &[u64])
         requires { room self.old (fill form.now values.now ++ lf) }
-        ensures { laid self.old (fill form.now values.now ++ lf) self.new };
+        ensures { laid self.old (fill form.now values.now ++ lf) self.new }
+    {
+        self.form(form, values);
+        self.byte(b'\n');
+    }
 
     ghost laid_none: { (s : Self) → room s [] → laid s [] s };
 
@@ -27,27 +65,31 @@ pub trait Sink {
     ghost room_left: { (s t : Self) (a b : List ℕ) → room s (a ++ b) → laid s a t → room t b };
 }
 
-// Counts bytes.
+// Counts bytes, as far as a `usize` goes.
 #[derive(Clone, Copy)]
 pub struct Count {
     pub bytes: usize,
 }
 
 impl Sink for Count {
-    ghost room = { λ s a. s.bytes + length a < 2 ^ 64 };
+    ghost room = { λ s a. s.bytes < 2 ^ 64 };
 
-    ghost laid = { λ s a t. t.bytes ≡ s.bytes + length a };
+    ghost laid = { λ s a t. t.bytes ≡ counted s.bytes a };
 
-    ghost laid_none = { λ s h. counted_none s.bytes };
+    ghost laid_none = { λ s h. counted_none s.bytes h };
 
     ghost laid_more = { λ s t u a b p q. counted_more s.bytes t.bytes u.bytes a b p q };
 
-    ghost room_front = { λ s a b h. counted_front s.bytes a b h };
+    ghost room_front = { λ s a b h. h };
 
-    ghost room_left = { λ s t a b h p. counted_left s.bytes t.bytes a b h p };
+    ghost room_left = { λ s t a b h p. counted_left s.bytes t.bytes a p };
 
-    fn line(&mut self, form: &[u8], values: &[u64]) {
-        self.bytes += line_size(form, values);
+    fn byte(&mut self, _byte: u8) {
+        self.bytes = self.bytes.saturating_add(1);
+    }
+
+    fn number(&mut self, value: u64) {
+        self.bytes = self.bytes.saturating_add(number_size(value));
     }
 }
 
@@ -71,8 +113,29 @@ impl Sink for Page<'_> {
 
     ghost room_left = { λ s t a b h p. page_left p.0 b h };
 
-    fn line(&mut self, form: &[u8], values: &[u64]) {
-        let n = write_line(&mut self.out[self.at..], form, values);
+    fn byte(&mut self, byte: u8) {
+        self.out[self.at] = byte;
+        self.at += 1;
+    }
+
+    fn number(&mut self, value: u64) {
+        let n = write_number(&mut self.out[self.at..], value);
         self.at += n;
     }
+
+    fn line(&mut self, form: &[u8], values: &[u64]) {
+        let written = write_line(&mut self.out[self.at..], form, values);
+        self.at += written;
+    }
+}
+
+// Writes a form with its numbers, and LF, at the front of `out`, and returns how many bytes that takes.
+fn write_line(out: &mut [u8], form: &[u8], values: &[u64]) -> usize
+    requires { length (fill form.now values.now ++ lf) ≤ length out.old }
+    ensures { Wrote (fill form.now values.now ++ lf) result out.old out.new }
+{
+    let mut page = Page { out, at: 0 };
+    page.form(form, values);
+    page.byte(b'\n');
+    page.at
 }

@@ -6,16 +6,18 @@ use Rattle.planner.proofs.run.Goals as goal
 
 pub start-requires : goal.start-requires
 start-requires c =
-    let a = c.args in record {
-      well_formed = own-asks (as_planner a.rule) a.shape (job_of a.job.now) c.memory_of.ensures c.board_by-board.ensures c.requires.well_formed;
+    let a = c.args in
+    let j = a.job.now in record {
+      well_formed = own-asks (as_planner a.rule) j.shape (job_of j.numbers.now) c.memory_of.ensures c.board_by.ensures c.requires.well_formed;
       schedule_value = c.requires.schedule_value;
     }
 
 pub returns : goal.returns
 returns c =
     let a = c.args in
+    let j = a.job.now in
     let e = c.memory_of.ensures in
-    let g = c.board_by-board.ensures in record {
-      schedule_after = own-ends (as_planner a.rule) a.shape (job_of a.job.now) e g _ c.start.result c.start.ensures.schedule_after;
-      claims = own-claims (as_planner a.rule) a.shape (job_of a.job.now) e g _ c.start.result c.start.ensures.claims;
+    let g = c.board_by.ensures in record {
+      schedule_after = own-ends (as_planner a.rule) j.shape (job_of j.numbers.now) e g _ c.start.result c.start.ensures.schedule_after;
+      claims = own-claims (as_planner a.rule) j.shape (job_of j.numbers.now) e g _ c.start.result c.start.ensures.claims;
     }

@@ -11,7 +11,9 @@ returns-in_err-value c =
     rw (p.1, p.2) (cut-wrong file_form _ c.in-Some.ensures _ (c.in_err-value.ensures ∙ file-says _ c.in-Some.ensures))
 
 pub returns-in-Some : goal.returns-in-Some
-returns-in-Some c = cut-right file_form _ c.in-Some.ensures _ (c.in_ok-value.ensures ∙ file-says _ c.in-Some.ensures)
+returns-in-Some c =
+    let w = c.with.ensures in
+    rw (w.0, w.1) (cut-right file_form _ c.in-Some.ensures _ (c.in_ok-value.ensures ∙ file-says _ c.in-Some.ensures))
 
 pub returns-in_err-value-2 : goal.returns-in_err-value-2
 returns-in_err-value-2 c =
@@ -21,7 +23,9 @@ returns-in_err-value-2 c =
 
 pub returns-in-Some-line_by : goal.returns-in-Some-line_by
 returns-in-Some-line_by c =
-    let r = c.in-Some-line_by.ensures in cut-right task_form _ r _ (c.in_ok-value-2.ensures ∙ task-says _ r)
+    let r = c.in-Some-line_by.ensures in
+    let w = c.with-in-Some-line_by.ensures in
+    rw (w.0, w.1) (cut-right task_form _ r _ (c.in_ok-value-2.ensures ∙ task-says _ r))
 
 pub returns-in_err-value-3 : goal.returns-in_err-value-3
 returns-in_err-value-3 c =
@@ -32,7 +36,8 @@ returns-in_err-value-3 c =
 pub returns-in-Some-line_by-2 : goal.returns-in-Some-line_by-2
 returns-in-Some-line_by-2 c =
     let r = c.in-Some-line_by-2.ensures in
-    cut-right work_form _ r _ (c.in_ok-value-3.ensures ∙ work-says _ c.in_default-line_by.ensures r)
+    let w = c.with-in-Some-line_by-2.ensures in
+    rw (w.0, w.1) (cut-right work_form _ r _ (c.in_ok-value-3.ensures ∙ work-says _ c.in_default-line_by.ensures r))
 
 pub returns-in_default-line_by-3 : goal.returns-in_default-line_by-3
 returns-in_default-line_by-3 c =
@@ -45,4 +50,7 @@ returns-in_err-value-4 c =
     rw (p.1, p.2) (cut-wrong board_form _ r _ (c.in_err-value-4.ensures ∙ board-says _ r))
 
 pub returns : goal.returns
-returns c = let r = c.in-Some-line_by-3.ensures in cut-right board_form _ r _ (c.in_ok-value-4.ensures ∙ board-says _ r)
+returns c =
+    let r = c.in-Some-line_by-3.ensures in
+    let w = c.with-2.ensures in
+    rw (w.0, w.1) (cut-right board_form _ r _ (c.in_ok-value-4.ensures ∙ board-says _ r))

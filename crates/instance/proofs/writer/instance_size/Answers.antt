@@ -1,7 +1,7 @@
--- `instance::writer::instance_size` meets its contract: the count does not wrap.
+-- `instance::writer::instance_size` meets its contract: no sheet has more bytes than the count can hold.
 use native.Mathlib.Omega.{arith}
 use Rattle.instance.proofs.ShortLaws.{sheet-short}
 use Rattle.instance.proofs.writer.instance_size.Goals as goal
 
-pub put_sheet-requires : goal.put_sheet-requires
-put_sheet-requires c = omega (arith, sheet-short c.args.job.now)
+pub returns : goal.returns
+returns c = omega (arith, c.put_sheet.ensures, sheet-short c.args.job.now)

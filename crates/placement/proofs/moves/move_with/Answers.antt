@@ -1,5 +1,5 @@
 -- `move_with` meets its contract: a file that crosses takes some time to move.
-use mathlib.Core.Path.{refl, ◌∙◌}
+use mathlib.Core.Path.{refl}
 use native.Mathlib.Omega.{arith}
 use borrow.Author.Tests.{lt-ltb, le-ltb}
 use Rattle.model.specs.Colours.{as_colour}

@@ -3,9 +3,9 @@ use Prim.Native.Nat.{ℕ, ◌<◌}
 use mathlib.Core.Bool.{false}
 use mathlib.Core.Path.{◌≡◌}
 use Rattle.model.specs.Layout.{count_in}
-use Rattle.placement.proofs.SlotLaws.{latest_in, latest_free_in}
+use Rattle.placement.proofs.SlotLaws.{latest_free_in}
 use Rattle.placement.proofs.processor.chosen_processor.Given as goal
 
 abbrev pub invariant-loop-p : goal.invariant-loop-p
 invariant-loop-p l =
-    (l.n ≡ count_in l.shape l.colour) × (l.latest ≡ latest_in l.shape l.last l.colour l.start) × ((q : ℕ) → q < l.p → latest_free_in l.shape l.last l.colour l.start q ≡ false)
+    (l.p-end ≡ count_in l.job.shape l.colour) × ((q : ℕ) → q < l.p → latest_free_in l.job.shape l.finishes l.colour l.start q ≡ false)

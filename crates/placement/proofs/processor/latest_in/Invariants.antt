@@ -8,4 +8,5 @@ use Rattle.placement.proofs.processor.latest_in.Given as goal
 
 abbrev pub invariant-loop-p : goal.invariant-loop-p
 invariant-loop-p l =
-    (l.n ≡ count_in l.shape l.colour) × (l.most ≡ max_where l.p (free_in l.shape l.last l.colour l.start) (last_in l.shape l.last l.colour))
+    (l.p-end ≡ count_in l.job.shape l.colour)
+    × (l.most ≡ max_where l.p (free_in l.job.shape l.finishes l.colour l.start) (last_in l.job.shape l.finishes l.colour))

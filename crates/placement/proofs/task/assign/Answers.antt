@@ -1,41 +1,27 @@
 -- `assign` meets its contract: the three writes are the rules' `assign`.
-use lib.ListN.{length-set}
-use Rattle.placement.proofs.PlaceLaws.{placed}
-use native.Mathlib.Omega.{arith}
 use Rattle.model.specs.Layout.{job_of, entries_of}
-use Rattle.placement.proofs.SlotLaws.{chosen-exists}
+use Rattle.placement.proofs.PlaceLaws.{assigned}
+use Rattle.placement.proofs.SlotLaws.{chosen-exists, chosen-some, chosen-is}
 use Rattle.placement.proofs.task.assign.Goals as goal
 
-pub set_moves-requires : goal.set_moves-requires
-set_moves-requires c = record {
-  i_lt_tasks = c.requires.i_lt_tasks.0;
-  schedule_len = c.requires.schedule_len.0;
-}
-
-pub slot_in-slot-requires : goal.slot_in-slot-requires
-slot_in-slot-requires c =
-    let J = job_of c.args.links.now.job.numbers.now in
-    let L = entries_of c.args.schedule.now in record {
-      processors = c.args.links.now.job.in_bounds.processors;
-      p_bound = chosen-exists c.args.links.now.job.shape c.args.last.now c.args.trial.colour c.args.trial.start J L c.args.links.now.job.in_bounds.processors
-          c.requires.colour_bound (c.chosen_processor-p.ensures J L);
-    }
-
-pub overflow_add-finish : goal.overflow_add-finish
-overflow_add-finish c =
-    omega (arith, c.requires.i_lt_tasks.1, c.run_time.ensures.upper_bound)
+pub unwrap-p-requires : goal.unwrap-p-requires
+unwrap-p-requires c =
+    let j = c.args.links.now.job in
+    let L = entries_of c.args.schedule.now in
+    chosen-some j.shape c.args.finishes.now c.args.trial.colour c.args.trial.start (job_of j.numbers.now) L j.in_bounds.processors c.requires.colour_bound c.chosen_processor.result
+    (c.chosen_processor.ensures.value L)
 
 pub returns : goal.returns
 returns c =
-    let J = job_of c.args.links.now.job.numbers.now in
-    let L = entries_of c.args.schedule.now in
-    let chosen = c.chosen_processor-p.ensures J L in
-    let run = c.set_run.ensures in
-    let exists = chosen-exists c.args.links.now.job.shape c.args.last.now c.args.trial.colour c.args.trial.start J L
-    c.args.links.now.job.in_bounds.processors c.requires.colour_bound chosen in record {
-      schedule_len_2 = (run.schedule_len.1, simp length-set c.requires.schedule_len.1);
-      last_after = placed c.args.links.now.job.in_bounds c.args.schedule.now c.args.last.now c.args.trial.colour c.requires.i_lt_tasks.0 c.args.trial.start c.set_moves.new.schedule
-          c.set_moves.ensures.schedule_len_2 c.set_moves.ensures.by_index
-          c.chosen_processor-p.result c.requires.schedule_len.1 c.set_moves.ensures.schedule_after chosen exists c.slot_in-slot.ensures.value
-          c.run_time.ensures.value run.schedule_after;
+    let a = c.args in
+    let j = a.links.now.job in
+    let J = job_of j.numbers.now in
+    let L = entries_of a.schedule.now in
+    let chosen = chosen-is j.shape a.finishes.now a.trial.colour a.trial.start J L c.unwrap-p.ensures (c.chosen_processor.ensures.value L) in
+    let exists = chosen-exists j.shape a.finishes.now a.trial.colour a.trial.start J L j.in_bounds.processors c.requires.colour_bound chosen in
+    let run = c.set_run.ensures in record {
+      schedule_len_2 = run.schedule_len.1;
+      finishes_after = rw c.set.ensures.value (assigned j.in_bounds a.schedule.now a.finishes.now a.trial.colour c.requires.i_lt_tasks.0 a.trial.start
+          c.set_moves.new.schedule c.set_moves.ensures.schedule_len_2 c.set_moves.ensures.by_index c.unwrap-p.result c.set.ensures.whole
+          c.set_moves.ensures.schedule_after chosen exists c.slot_in-slot.ensures.value c.run_time.ensures.value run.schedule_after);
     }

@@ -8,13 +8,14 @@ use Rattle.model.specs.Layout.{job_of, partial_of}
 use Rattle.model.specs.Jobs.{instance_in}
 use Rattle.model.proofs.LayoutLaws.{task-count}
 use Rattle.staircase.proofs.StairsLaws.{pending-placing, holds-placed}
+use Rattle.placement.proofs.PlaceLaws.{finish-bound}
 use Rattle.placement.proofs.task.place.Goals as goal
 
 pub both_memories-requires : goal.both_memories-requires
 both_memories-requires c =
     let b = c.args.links.now.job.shape in
     let I = instance_in c.args.links.now.job in
-    let Q = partial_of b c.args.schedule.now c.args.last.now in
+    let Q = partial_of b c.args.schedule.now c.args.finishes.now in
     let W = c.requires.well_formed in
     let T = c.requires.trial.0 in
     let i = c.args.trial.task in
@@ -29,18 +30,20 @@ both_memories-requires c =
 pub assign-requires : goal.assign-requires
 assign-requires c =
     let b = c.args.links.now.job.shape in
-    let Q = partial_of b c.args.schedule.now c.args.last.now in
+    let Q = partial_of b c.args.schedule.now c.args.finishes.now in
     let p = c.requires.trial in
     let st = starts aware (instance_in c.args.links.now.job) Q c.args.trial.task (as_colour c.args.trial.colour) c.args.trial.start p.0.earliest in record {
       schedule_len = c.requires.schedule_len;
       i_lt_tasks = (omega (arith, p.0.exists, task-count b (job_of c.args.links.now.job.numbers.now)), p.1);
       colour_bound = omega (arith, st.start);
+      finish_bound = finish-bound (instance_in c.args.links.now.job) c.requires.well_formed c.requires.placed c.args.trial.task
+          (as_colour c.args.trial.colour) c.args.trial.start p.0;
     }
 
 pub returns : goal.returns
 returns c =
     let I = instance_in c.args.links.now.job in
-    let Q = partial_of c.args.links.now.job.shape c.args.schedule.now c.args.last.now in
+    let Q = partial_of c.args.links.now.job.shape c.args.schedule.now c.args.finishes.now in
     let W = c.requires.well_formed in
     let T = c.requires.trial.0 in
     let i = c.args.trial.task in
@@ -48,7 +51,7 @@ returns c =
     let t = c.args.trial.start in
     let made = c.both_memories.ensures in record {
       schedule_len_2 = c.assign.ensures.schedule_len_2;
-      last_after = c.assign.ensures.last_after;
+      finishes_after = c.assign.ensures.finishes_after;
       holds_stairs_3 = holds-placed I W Q c.requires.placed i x t T blue c.requires.holds_stairs made.made;
       holds_stairs_4 = holds-placed I W Q c.requires.placed i x t T red c.requires.holds_stairs_2 made.made_2;
     }

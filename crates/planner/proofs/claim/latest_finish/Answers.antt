@@ -1,24 +1,21 @@
-use mathlib.Core.Path.{sym, ◌∙◌}
+use mathlib.Core.Path.{refl, sym, ◌∙◌}
 use native.Mathlib.Omega.{arith}
 use lib.ListN.{get_or}
-use Prim.Native.Nat.{◌+◌, ◌<◌}
-use Rattle.std.proofs.lemmas.List.{length-take, get_or-take}
+use Rattle.model.specs.Layout.{job_of}
 use Rattle.model.proofs.StepLaws.{max_none, max-next}
 use Rattle.planner.proofs.ClaimLaws.{latest-last}
 use Rattle.planner.proofs.claim.latest_finish.Goals as goal
 
-pub loop-finish-init : goal.loop-finish-init
-loop-finish-init c = sym (max_none _)
+pub loop-p-init : goal.loop-p-init
+loop-p-init c = (refl, sym (max_none _))
 
-pub loop-finish-preserved : goal.loop-finish-preserved
-loop-finish-preserved c =
-    let n = c.args.shape.board.blue.processors + c.args.shape.board.red.processors in
-    let last = c.args.last.now in
-    let i = c.loop-finish.finish-index in
-    let l : i < n = omega (arith, c.loop-finish-test.true, length-take n last) in
-    omega (arith, c.max-most.ensures, c.loop-finish.invariant, max-next (λ q. get_or last q 0) i, get_or-take n last i 0 l)
+pub loop-p-preserved : goal.loop-p-preserved
+loop-p-preserved c = (
+  c.loop-p.invariant.0,
+  omega (arith, c.max-most.ensures, c.of.ensures.value, c.loop-p.invariant.1, max-next (λ q. get_or c.args.finishes.now q 0) c.loop-p.p),
+)
 
 pub returns : goal.returns
 returns c =
-    let a = c.args in
-    λ J L. c.loop-finish.invariant ∙ latest-last a.shape J L a.last.now {n = c.loop-finish.finish-index} (omega (arith, length-take (a.shape.board.blue.processors + a.shape.board.red.processors) a.last.now))
+    let j = c.args.job.now in
+    λ L. c.loop-p.invariant.1 ∙ latest-last j.shape (job_of j.numbers.now) L c.args.finishes.now {n = c.loop-p.p} (omega (arith, c.loop-p.invariant.0))

@@ -7,7 +7,7 @@ use Rattle.planner.proofs.rounds.place_task.Goals as goal
 pub of-need-requires : goal.of-need-requires
 of-need-requires c =
     let j = c.args.links.now.job in
-    trial-index j.shape (job_of j.numbers.now) (entries_of c.args.schedule.now) c.args.state.now.last c.requires.kept c.args.trial c.requires.trial
+    trial-index j.shape (job_of j.numbers.now) (entries_of c.args.schedule.now) c.args.state.now.finishes c.requires.kept c.args.trial c.requires.trial
 
 pub place-requires : goal.place-requires
 place-requires c =
@@ -19,7 +19,7 @@ place-requires c =
       schedule_len = c.requires.schedule_len;
       placed = K.placed;
       trial = (T, c.requires.start_bound);
-      sizes_of = placing-sizes j.shape (job_of j.numbers.now) (entries_of a.schedule.now) a.state.now.last K a.trial T c.of-need.ensures.value refl refl
+      sizes_of = placing-sizes j.shape (job_of j.numbers.now) (entries_of a.schedule.now) a.state.now.finishes K a.trial T c.of-need.ensures.value refl refl
           (ap (λ d. d.incoming) c.get.ensures);
       holds_stairs = K.blue;
       holds_stairs_2 = K.red;
@@ -34,11 +34,11 @@ renew-requires c =
     let K = c.requires.kept in
     let T = c.requires.trial in
     let M = entries_of c.place.new.schedule in
-    let z = c.place.new.last in
-    let e = c.place.ensures.last_after in record {
-      schedule_in_bounds = (after-bounds j.shape J L a.state.now.last K a.trial T M z e).schedule;
-      right_but = after-needs j.shape J L a.state.now.last K a.trial T M z e;
-      i_lt_tasks = (trial-task j.shape J L a.state.now.last K a.trial T, after-placed j.shape J L a.state.now.last K a.trial T M z e);
+    let z = c.place.new.finishes in
+    let e = c.place.ensures.finishes_after in record {
+      schedule_in_bounds = (after-bounds j.shape J L a.state.now.finishes K a.trial T M z e).schedule;
+      right_but = after-needs j.shape J L a.state.now.finishes K a.trial T M z e;
+      i_lt_tasks = (trial-task j.shape J L a.state.now.finishes K a.trial T, after-placed j.shape J L a.state.now.finishes K a.trial T M z e);
     }
 
 pub returns : goal.returns
@@ -46,8 +46,8 @@ returns c =
     let a = c.args in
     let j = a.links.now.job in
     let p = c.place.ensures in record {
-      last_after = p.last_after;
-      kept_2 = after_kept j.shape (job_of j.numbers.now) (entries_of a.schedule.now) a.state.now.last c.requires.kept a.trial c.requires.trial
-          (entries_of c.place.new.schedule) c.place.new.last p.last_after c.renew.ensures p.holds_stairs_3 p.holds_stairs_4;
+      finishes_after = p.finishes_after;
+      kept_2 = after_kept j.shape (job_of j.numbers.now) (entries_of a.schedule.now) a.state.now.finishes c.requires.kept a.trial c.requires.trial
+          (entries_of c.place.new.schedule) c.place.new.finishes p.finishes_after c.renew.ensures p.holds_stairs_3 p.holds_stairs_4;
       schedule_len_2 = p.schedule_len_2;
     }

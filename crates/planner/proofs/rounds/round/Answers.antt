@@ -1,18 +1,23 @@
 -- `round` meets its contract: each arm is the round of its rule.
-use Rattle.model.specs.Layout.{job_of, instance_from, partial_from}
+use mathlib.Core.Path.{◌∙◌, ap}
+use Rattle.model.specs.Jobs.{instance_in}
+use Rattle.model.specs.Layout.{partial_from}
+use Rattle.starts.specs.Memories.{as_memory}
 use Rattle.planner.proofs.RoundLaws.{heft-round, min-min-round}
 use Rattle.planner.proofs.rounds.round.Goals as goal
 
-pub returns-in-Heft : goal.returns-in-Heft
-returns-in-Heft c = record {
-  result_value = (λ L k. heft-round (instance_from c.args.job.now.shape (job_of c.args.job.now.numbers.now)) (partial_from c.args.job.now.shape L c.args.state.now.last)
-      c.in-Heft.is c.requires.p_value (c.first_that_fits.ensures.result_value L k));
-  choice_bounds = c.first_that_fits.ensures.choice_bounds;
-}
+pub returns-in-Heft-clause-result_value : goal.returns-in-Heft-clause-result_value
+returns-in-Heft-clause-result_value c = λ L k.
+    let j = c.args.job.now in
+    let Q = partial_from j.shape L c.args.state.now.finishes in
+    let same = c.new-trials.ensures.same in
+    let found = rw same.1 at (c.first_that_fits.ensures.result_value Q (c.new-trials.ensures.trials_of L k)) in
+    heft-round (ap as_memory same.0 ∙ c.memory_of.ensures) (instance_in j) Q c.in-Heft.is c.requires.p_value found
 
-pub returns-in-MinMin : goal.returns-in-MinMin
-returns-in-MinMin c = record {
-  result_value = (λ L k. min-min-round (instance_from c.args.job.now.shape (job_of c.args.job.now.numbers.now)) (partial_from c.args.job.now.shape L c.args.state.now.last)
-      c.in-MinMin.is (c.earliest_round.ensures.result_value L k));
-  choice_bounds = c.earliest_round.ensures.choice_bounds;
-}
+pub returns-in-MinMin-clause-result_value : goal.returns-in-MinMin-clause-result_value
+returns-in-MinMin-clause-result_value c = λ L k.
+    let j = c.args.job.now in
+    let Q = partial_from j.shape L c.args.state.now.finishes in
+    let same = c.new-trials.ensures.same in
+    let found = rw same.1 at (c.earliest_round.ensures.result_value Q (c.new-trials.ensures.trials_of L k)) in
+    min-min-round (ap as_memory same.0 ∙ c.memory_of.ensures) (instance_in j) Q c.in-MinMin.is found

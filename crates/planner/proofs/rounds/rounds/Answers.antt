@@ -3,7 +3,8 @@ use lib.ListN.{replicate}
 use mathlib.Core.Path.{refl, sym, ap, ◌∙◌}
 use native.Mathlib.Omega.{arith}
 use Rattle.model.specs.declared.colour.Colour.TheVariants.{Blue, Red}
-use Rattle.model.specs.Layout.{job_of, entries_of, last_length}
+use Rattle.rules.specs.Limits.{all_processors}
+use Rattle.model.specs.Layout.{job_of, entries_of}
 use Rattle.model.proofs.LayoutLaws.{job-bounds, limit-of}
 use Rattle.rules.specs.Model as Rules
 use Rattle.staircase.specs.Steps.{start_steps}
@@ -11,7 +12,7 @@ use Rattle.staircase.proofs.StairsLaws.{holds-start}
 use Rattle.placement.proofs.PlaceLaws.{empty-from}
 use Rattle.planner.proofs.RunLaws.{empty-bounds, chosen-bounds}
 use Rattle.planner.specs.Outcomes.{as_planner}
-use Rattle.planner.proofs.RunLaws.{planning-start, planning-last, planning-stairs, planning-stuck, planning-trial, planning-next}
+use Rattle.planner.proofs.RunLaws.{planning-start, planning-stairs, planning-stuck, planning-trial, planning-next}
 use Rattle.planner.proofs.RunLaws.{planning-done, planning-complete, planning-free}
 use Rattle.planner.proofs.rounds.rounds.Goals as goal
 
@@ -20,20 +21,19 @@ fill-requires c =
     let a = c.args in
     let j = a.links.now.job in
     let J = job_of j.numbers.now in
-    (empty-bounds j.shape J c.requires.well_formed.0 (entries_of a.schedule.now) (replicate {A = ℕ} last_length 0)
-    (rw c.requires.schedule_value (empty-from j.shape J last_length))).schedule
+    (empty-bounds j.shape J c.requires.well_formed.0 (entries_of a.schedule.now) (replicate {A = ℕ} all_processors 0)
+    (rw c.requires.schedule_value (empty-from j.shape J all_processors))).schedule
 
 pub loop-placed-init : goal.loop-placed-init
 loop-placed-init c =
     let a = c.args in
     let J = job_of a.links.now.job.numbers.now in
     let W = c.requires.well_formed.0 in
-    let x = c.new-2.ensures in
-    let y = c.new-3.ensures in (
+    let x = c.new-3.ensures in
+    let y = c.new-4.ensures in (
       rw c.requires.schedule_value (refl, refl),
-      refl,
       planning-start (as_planner a.rule) a.links.now.job.shape J W c.requires.well_formed.1 _ _ _
-          (rw c.requires.schedule_value (empty-from a.links.now.job.shape J last_length))
+          (rw (c.requires.schedule_value, c.new.ensures) (empty-from a.links.now.job.shape J all_processors))
           c.fill.ensures
           (holds-start W Rules.blue _ (x ∙ ap start_steps (sym (limit-of a.links.now.job.shape J Blue))))
           (holds-start W Rules.red _ (y ∙ ap start_steps (sym (limit-of a.links.now.job.shape J Red)))),
@@ -42,8 +42,7 @@ loop-placed-init c =
 pub round-found-requires : goal.round-found-requires
 round-found-requires c =
     let a = c.args in
-    let p = c.loop-placed.invariant.2 in record {
-      last_bounds = planning-last (as_planner a.rule) a.links.now.job.shape (job_of a.links.now.job.numbers.now) c.requires.well_formed.0 c.requires.well_formed.1 p;
+    let p = c.loop-placed.invariant.1 in record {
       bounds = planning-stairs (as_planner a.rule) a.links.now.job.shape (job_of a.links.now.job.numbers.now) c.requires.well_formed.0 c.requires.well_formed.1 p;
       order_bounds = c.requires.order_bounds;
       p_value = c.requires.p_value;
@@ -53,16 +52,16 @@ pub overflow_add-trials : goal.overflow_add-trials
 overflow_add-trials c =
     omega (
       arith,
-      c.loop-placed.invariant.2.counted,
+      c.loop-placed.invariant.1.counted,
       c.round-found.ensures.choice_bounds.1,
       (job-bounds c.args.links.now.job.shape (job_of c.args.links.now.job.numbers.now) c.requires.well_formed.0).tasks,
-      c.loop-placed.invariant.2.most,
+      c.loop-placed.invariant.1.most,
     )
 
 pub returns-in_default : goal.returns-in_default
 returns-in_default c =
     let a = c.args in
-    let p = c.loop-placed.invariant.2 in record {
+    let p = c.loop-placed.invariant.1 in record {
       schedule_after = planning-stuck (as_planner a.rule) a.links.now.job.shape (job_of a.links.now.job.numbers.now) c.requires.well_formed.0 c.requires.well_formed.1 p c.loop-placed-test.true
           c.round-found.result (c.round-found.ensures.result_value _ p.kept) c.in_default.is;
       claims = tt;
@@ -71,38 +70,35 @@ returns-in_default c =
 pub place_task-requires : goal.place_task-requires
 place_task-requires c =
     let a = c.args in
-    let p = c.loop-placed.invariant.2 in
+    let p = c.loop-placed.invariant.1 in
     let x = chosen-bounds a.links.now.job.shape c.in-Some.is c.round-found.ensures.choice_bounds.0 in record {
       kept = p.kept;
       start_bound = x.1;
       trial = planning-trial (as_planner a.rule) a.links.now.job.shape (job_of a.links.now.job.numbers.now) c.requires.well_formed.0 c.requires.well_formed.1 p c.loop-placed-test.true
           c.round-found.result (c.round-found.ensures.result_value _ p.kept) c.in-Some.is;
-      schedule_len = (c.loop-placed.invariant.0, c.loop-placed.invariant.1);
+      schedule_len = c.loop-placed.invariant.0;
     }
 
 pub loop-placed-preserved : goal.loop-placed-preserved
 loop-placed-preserved c =
     let a = c.args in
-    let p = c.loop-placed.invariant.2 in
+    let p = c.loop-placed.invariant.1 in
     let e = c.place_task.ensures in (
-      e.schedule_len_2.0,
-      e.schedule_len_2.1,
+      e.schedule_len_2,
       planning-next (as_planner a.rule) a.links.now.job.shape (job_of a.links.now.job.numbers.now) c.requires.well_formed.0 c.requires.well_formed.1 p c.loop-placed-test.true
-          c.round-found.result (c.round-found.ensures.result_value _ p.kept) c.in-Some.is e.last_after e.kept_2 c.round-found.ensures.choice_bounds.1,
+          c.round-found.result (c.round-found.ensures.result_value _ p.kept) c.in-Some.is e.finishes_after e.kept_2 c.round-found.ensures.choice_bounds.1,
     )
 
 pub claim_from-claim-requires : goal.claim_from-claim-requires
 claim_from-claim-requires c =
-    let a = c.args in record {
-      processors = (job-bounds a.links.now.job.shape (job_of a.links.now.job.numbers.now) c.requires.well_formed.0).processors;
-      free_within = planning-free (as_planner a.rule) a.links.now.job.shape (job_of a.links.now.job.numbers.now) c.requires.well_formed.0 c.requires.well_formed.1 c.loop-placed.invariant.2;
-    }
+    let a = c.args in
+    planning-free (as_planner a.rule) a.links.now.job.shape (job_of a.links.now.job.numbers.now) c.requires.well_formed.0 c.requires.well_formed.1 c.loop-placed.invariant.1
 
 pub returns : goal.returns
 returns c =
     let a = c.args in
-    let p = c.loop-placed.invariant.2 in record {
+    let p = c.loop-placed.invariant.1 in record {
       schedule_after = planning-done (as_planner a.rule) a.links.now.job.shape (job_of a.links.now.job.numbers.now) c.requires.well_formed.0 c.requires.well_formed.1 p c.loop-placed-test.false;
-      claims = c.claim_from-claim.ensures (job_of a.links.now.job.numbers.now) _ _ p.kept
+      claims = c.claim_from-claim.ensures _ _ p.kept
           (planning-complete (as_planner a.rule) a.links.now.job.shape (job_of a.links.now.job.numbers.now) c.requires.well_formed.0 c.requires.well_formed.1 p c.loop-placed-test.false);
     }

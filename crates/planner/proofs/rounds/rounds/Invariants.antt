@@ -1,12 +1,10 @@
 -- `rounds` meets its contract. The invariant: the planner's state between two rounds.
-use mathlib.Core.Path.{◌≡◌}
-use lib.ListN.{length}
-use Rattle.model.specs.Layout.{job_of, entries_of, WholeSchedule, last_length}
+use Rattle.model.specs.Layout.{job_of, entries_of, WholeSchedule}
 use Rattle.planner.specs.Outcomes.{as_planner}
 use Rattle.planner.proofs.RunLaws.{Planning}
 use Rattle.planner.proofs.rounds.rounds.Given as goal
 
 abbrev pub invariant-loop-placed : goal.invariant-loop-placed
 invariant-loop-placed l =
-    WholeSchedule l.schedule × (length l.state.last ≡ last_length)
-    × Planning (as_planner l.rule) l.links.job.shape (job_of l.links.job.numbers.now) (entries_of l.schedule) l.state.last l.state.needs l.state.stairs l.placed l.trials
+    WholeSchedule l.schedule
+    × Planning (as_planner l.rule) l.links.job.shape (job_of l.links.job.numbers.now) (entries_of l.schedule) l.state.finishes l.state.needs l.state.stairs l.placed l.trials

@@ -17,7 +17,8 @@ pub returns-in-Some : goal.returns-in-Some
 returns-in-Some c =
     let I = instance_in c.args.job.now in
     let r = c.in-Some.ensures in
-    cut-right I move_form _ r _ (c.in_ok-value.ensures ∙ move-says I _ r)
+    let w = c.with.ensures in
+    rw (w.0, w.1) (cut-right I move_form _ r _ (c.in_ok-value.ensures ∙ move-says I _ r))
 
 pub returns-in_err-value-2 : goal.returns-in_err-value-2
 returns-in_err-value-2 c =
@@ -30,7 +31,8 @@ pub returns-in-Some-line_by : goal.returns-in-Some-line_by
 returns-in-Some-line_by c =
     let I = instance_in c.args.job.now in
     let r = c.in-Some-line_by.ensures in
-    cut-right I run_form _ r _ (c.in_ok-value-2.ensures ∙ run-says I _ r)
+    let w = c.with-in-Some-line_by.ensures in
+    rw (w.0, w.1) (cut-right I run_form _ r _ (c.in_ok-value-2.ensures ∙ run-says I _ r))
 
 pub returns-in_default-line_by-2 : goal.returns-in_default-line_by-2
 returns-in_default-line_by-2 c =
@@ -47,4 +49,5 @@ pub returns : goal.returns
 returns c =
     let I = instance_in c.args.job.now in
     let r = c.in-Some-line_by-2.ensures in
-    cut-right I claim_form _ r _ (c.in_ok-value-3.ensures ∙ claim-says I _ r)
+    let w = c.with-2.ensures in
+    rw (w.0, w.1) (cut-right I claim_form _ r _ (c.in_ok-value-3.ensures ∙ claim-says I _ r))

@@ -9,19 +9,19 @@ use Rattle.schedule.proofs.reader.read.Goals as goal
 pub returns-then-paper-gt-MAX_TEXT : goal.returns-then-paper-gt-MAX_TEXT
 returns-then-paper-gt-MAX_TEXT c = read-long _ _ c.if-paper-gt-MAX_TEXT.true
 
-pub returns-in_err-moves : goal.returns-in_err-moves
-returns-in_err-moves c =
+pub returns-in_err-behind_runs : goal.returns-in_err-behind_runs
+returns-in_err-behind_runs c =
     let p = err_from_is_err_and c.from_residual.result c.from_residual.ensures.1 in
     rw (p.1, p.2)
-    (subst (IsRefused c.in_err-moves.field-0.0) (sym (read_short (instance_in c.args.job.now) _ c.if-paper-gt-MAX_TEXT.false)) c.in_err-moves.ensures)
+    (subst (IsRefused c.in_err-behind_runs.field-0.0) (sym (read_short (instance_in c.args.job.now) _ c.if-paper-gt-MAX_TEXT.false)) c.in_err-behind_runs.ensures)
 
-pub returns-in_err-claim : goal.returns-in_err-claim
-returns-in_err-claim c =
-    let p = err_from_is_err_and c.from_residual-in_err-claim.result c.from_residual-in_err-claim.ensures.1 in
+pub returns-in_err-behind_moves : goal.returns-in_err-behind_moves
+returns-in_err-behind_moves c =
+    let p = err_from_is_err_and c.from_residual-in_err-behind_moves.result c.from_residual-in_err-behind_moves.ensures.1 in
     rw (p.1, p.2)
-    (subst (IsRefused c.in_err-claim.field-0.0) (sym (read_short (instance_in c.args.job.now) _ c.if-paper-gt-MAX_TEXT.false ∙ c.in_ok-moves.ensures))
-    c.in_err-claim.ensures.goes_on)
+    (subst (IsRefused c.in_err-behind_moves.field-0.0) (sym (read_short (instance_in c.args.job.now) _ c.if-paper-gt-MAX_TEXT.false ∙ c.in_ok-behind_runs.ensures))
+    c.in_err-behind_moves.ensures.goes_on)
 
 pub returns : goal.returns
 returns c =
-    rw (read_short (instance_in c.args.job.now) _ c.if-paper-gt-MAX_TEXT.false, c.in_ok-moves.ensures, c.in_ok-claim.ensures.goes_on) (c.read_claim.ensures _)
+    rw (read_short (instance_in c.args.job.now) _ c.if-paper-gt-MAX_TEXT.false, c.in_ok-behind_runs.ensures, c.in_ok-behind_moves.ensures.goes_on) (c.read_claim.ensures _)

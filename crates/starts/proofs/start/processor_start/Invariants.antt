@@ -6,6 +6,6 @@ use Rattle.rules.specs.Count.{min_up_to}
 use Rattle.model.specs.Layout.{last_tick}
 use Rattle.starts.proofs.start.processor_start.Given as goal
 
-abbrev pub invariant-loop-i : goal.invariant-loop-i
-invariant-loop-i l =
-    (l.least ≤ last_tick) × (l.least ≡ min_up_to (pred l.i) (λ p. get_or l.last (l.first + p) 0))
+abbrev pub invariant-loop-p : goal.invariant-loop-p
+invariant-loop-p l =
+    (l.least ≤ last_tick) × (l.least ≡ min_up_to (pred l.p) (λ p. get_or l.finishes (l.first + p) 0))
