@@ -5,7 +5,7 @@ ghost use Rattle.std.specs.Prelude.{◌≡◌};
 ghost use Rattle.rules.specs.Calls.{mark_on};
 ghost use Rattle.rules.specs.Promises.{WellFormed};
 ghost use Rattle.model.specs.Jobs.{instance_in};
-ghost use Rattle.model.specs.Layout.{schedule_of};
+ghost use Rattle.model.specs.Jobs.{schedule_of};
 ghost use Rattle.validator.specs.Answer.{as_verdict};
 ghost use Rattle.mark_text.specs.Marked.{Marked};
 
@@ -19,7 +19,7 @@ use validator::judgement::judge;
 // Marks a timetable on the job of an accepted board sheet, and leaves in the schedule what was read of it.
 pub fn mark_into(job: &Job, paper: &[u8], schedule: &mut layout::Schedule) -> Result<Claim, Refusal>
     requires { WellFormed (instance_in job.now) }
-    ensures { Marked (instance_in job.now) paper.now (schedule_of job.now.shape schedule.new) (as_verdict result) }
+    ensures { Marked (instance_in job.now) paper.now (schedule_of job.now schedule.new) (as_verdict result) }
 {
     let claim = schedule::read(job, paper, schedule)?;
     let timetable = Timetable {

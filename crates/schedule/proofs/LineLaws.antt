@@ -1,4 +1,5 @@
 -- One line: the form that it has, and its numbers in their ranges.
+use Rattle.model.specs.Layout.{instance_of}
 use Prim.Native.Nat.{ℕ, ◌+◌, ◌≤◌, ◌<◌}
 use mathlib.Core.Path.{◌≡◌, refl, ap}
 use mathlib.Core.List.{List, [], ◌∷◌}
@@ -14,13 +15,13 @@ use Rattle.text.specs.Cut.{scan_ended, Cut}
 use Rattle.text.specs.Due.{first_says, Took}
 use Rattle.text.proofs.FirstLineLaws.{no_line, line-within, line-ended, line-unended}
 use Rattle.text.proofs.CutLaws.{ended_some, ended-none, other-form, cut-lines, cut-left}
-use Rattle.model.specs.declared.layout.Shape.{Shape}
-use Rattle.model.specs.Layout.{Job, instance_from}
+use Rattle.model.specs.declared.job.Job.{Job}
+use Rattle.model.specs.Jobs.{instance_in}
 
 -- the numbers of a board's processors
-module _ (b : Shape) (J : Job) where
-  pub processor-count : processor_count (instance_from b J) ≡ b.board.blue.processors + b.board.red.processors
-  unfolding instance_from
+module _ (j : Job) where
+  pub processor-count : processor_count (instance_in j) ≡ j.board.blue.processors + j.board.red.processors
+  unfolding instance_of
   processor-count = refl
 
 -- ---- the form that a text's first line has

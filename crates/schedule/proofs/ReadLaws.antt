@@ -16,10 +16,11 @@ use Rattle.rules.specs.declared.refusal.Fault.{Fault}
 use Rattle.rules.specs.declared.refusal.Refusal.{Refusal}
 use Rattle.rules.specs.declared.refusal.Refusal.TheVariants.{Sheet, Timetable, Overlap, Early, OverLimit, UntrueClaim, Stuck, Short, TooManyTasks, TooManyFiles}
 use Rattle.rules.specs.Refusals.{as_fault}
-use Rattle.model.specs.declared.layout.Shape.{Shape}
 use Rattle.model.specs.declared.claim.Claim as Code
 use Rattle.model.specs.Claims.{as_claim}
-use Rattle.model.specs.Layout.{Job, Entries, instance_from, schedule_from}
+use Rattle.model.specs.declared.job.Job.{Job}
+use Rattle.model.specs.Layout.{Entries}
+use Rattle.model.specs.Jobs.{instance_in, schedule_by}
 use Rattle.schedule.specs.Reading.{IsRead, nothing}
 
 module _ (I : Instance) (bs : List ℕ) where
@@ -32,9 +33,9 @@ module _ (I : Instance) (bs : List ℕ) where
   read_short h = rw (le-leb _ _ h, read_schedule_by)
 
 -- ---- what is read is complete, with every number in its range
-module _ (b : Shape) (J : Job) (L : Entries) (c : Claim) where
-  pub read-spellable : (bs : List ℕ) → read_schedule (instance_from b J) bs ≡ read (schedule_from b L) c → Spellable (instance_from b J) (schedule_from b L) c
-  read-spellable bs e = (read_only (instance_from b J) (schedule_from b L) c bs e).0
+module _ (j : Job) (L : Entries) (c : Claim) where
+  pub read-spellable : (bs : List ℕ) → read_schedule (instance_in j) bs ≡ read (schedule_by j L) c → Spellable (instance_in j) (schedule_by j L) c
+  read-spellable bs e = (read_only (instance_in j) (schedule_by j L) c bs e).0
 
 -- ---- a refusal of the timetable: its fault and its line
 pub record OfTimetable (I : Instance) (bs : List ℕ) (e : Refusal) : Type 0 where

@@ -12,9 +12,10 @@ use Rattle.rules.specs.Text.{lf}
 use Rattle.rules.specs.Validity.{Claim}
 use Rattle.rules.specs.ScheduleText.{run_line, move_line, claim_line, schedule_bytes, run_lines, move_lines, schedule_text}
 use Rattle.rules.proofs.ScheduleTextLaws.{move_bytes, runs-next, moves_more, text-parts}
-use Rattle.model.specs.declared.layout.Shape.{Shape}
-use Rattle.model.specs.Layout.{Job, Entries, instance_from, schedule_from}
-use Rattle.model.proofs.LayoutLaws.{task-count, file-count, run-at, move-at}
+use Rattle.model.specs.declared.job.Job.{Job}
+use Rattle.model.specs.Layout.{Entries}
+use Rattle.model.specs.Jobs.{instance_in, schedule_by}
+use Rattle.model.proofs.JobLaws.{tasks-in, files-in, run-in, move-in}
 use Rattle.schedule.specs.Sizes.{longest}
 
 -- the piece of task i, and the piece of file k
@@ -31,38 +32,38 @@ pub moves_grow : (I : Instance) (P : Schedule) (k : ℕ) → move_lines I P (suc
 moves_grow I P k = moves_more I P k
 
 -- ---- from what the code reads
-pub run-piece : (b : Shape) (L : Entries) {i : ℕ} → i < b.tasks → (p s : ℕ) → p ≡ L.processor i → s ≡ L.start i
-    → schedule_bytes (run_line (i + 1) (record { processor = p; start = s })) ++ lf ≡ run_piece (schedule_from b L) i
-run-piece b L {i} h p s u v = rw (add-one i, u, v, run-at b L i h)
+pub run-piece : (j : Job) (L : Entries) {i : ℕ} → i < (length j.tasks.now) → (p s : ℕ) → p ≡ L.processor i → s ≡ L.start i
+    → schedule_bytes (run_line (i + 1) (record { processor = p; start = s })) ++ lf ≡ run_piece (schedule_by j L) i
+run-piece j L {i} h p s u v = rw (add-one i, u, v, run-in j L i h)
 
-module _ (I : Instance) (b : Shape) (L : Entries) {k : ℕ} (h : k < b.files) where
-  pub move-piece : (m d t : ℕ) → m ≡ (file_at I k).maker → d ≡ (file_at I k).reader → t ≡ L.move_start k → moved I (schedule_from b L) k ≡ true
-      → schedule_bytes (move_line (m + 1) (d + 1) t) ++ lf ≡ move_piece I (schedule_from b L) k
-  move-piece m d t u v w e = rw (e, move-at b L k h, u, v, w, add-one (file_at I k).maker, add-one (file_at I k).reader)
+module _ (I : Instance) (j : Job) (L : Entries) {k : ℕ} (h : k < (length j.files.now)) where
+  pub move-piece : (m d t : ℕ) → m ≡ (file_at I k).maker → d ≡ (file_at I k).reader → t ≡ L.move_start k → moved I (schedule_by j L) k ≡ true
+      → schedule_bytes (move_line (m + 1) (d + 1) t) ++ lf ≡ move_piece I (schedule_by j L) k
+  move-piece m d t u v w e = rw (e, move-in j L k h, u, v, w, add-one (file_at I k).maker, add-one (file_at I k).reader)
 
-  pub no-piece : moved I (schedule_from b L) k ≡ false → move_piece I (schedule_from b L) k ≡ []
+  pub no-piece : moved I (schedule_by j L) k ≡ false → move_piece I (schedule_by j L) k ≡ []
   no-piece e = rw e
 
 -- ---- the whole text
-pub text-pieces : (b : Shape) (J : Job) (L : Entries) (c : Claim) → let I = instance_from b J in let P = schedule_from b L in
-    schedule_text I P c ≡ (run_lines P b.tasks ++ move_lines I P b.files) ++ (schedule_bytes (claim_line c) ++ lf)
-text-pieces b J L c =
-    let I = instance_from b J in
-    let P = schedule_from b L in
-    text-parts I P c ∙ rw (task-count b J, file-count b J, append_assoc)
+pub text-pieces : (j : Job) (L : Entries) (c : Claim) → let I = instance_in j in let P = schedule_by j L in
+    schedule_text I P c ≡ (run_lines P (length j.tasks.now) ++ move_lines I P (length j.files.now)) ++ (schedule_bytes (claim_line c) ++ lf)
+text-pieces j L c =
+    let I = instance_in j in
+    let P = schedule_by j L in
+    text-parts I P c ∙ rw (tasks-in j, files-in j, append_assoc)
 
-module _ (b : Shape) (J : Job) (L : Entries) (c : Claim) where
+module _ (j : Job) (L : Entries) (c : Claim) where
   abbrev I : Instance
-  I = instance_from b J
+  I = instance_in j
 
   abbrev P : Schedule
-  P = schedule_from b L
+  P = schedule_by j L
 
   abbrev runs_part : List ℕ
-  runs_part = run_lines P b.tasks
+  runs_part = run_lines P (length j.tasks.now)
 
   abbrev moves_part : List ℕ
-  moves_part = move_lines I P b.files
+  moves_part = move_lines I P (length j.files.now)
 
   abbrev last_part : List ℕ
   last_part = schedule_bytes (claim_line c) ++ lf
@@ -70,5 +71,5 @@ module _ (b : Shape) (J : Job) (L : Entries) (c : Claim) where
   pub text-short : length runs_part ≤ longest * max_tasks → length moves_part ≤ longest * max_files → length last_part ≤ longest
       → length (schedule_text I P c) ≤ longest * (max_tasks + max_files + 1)
   text-short p q s =
-      rw (text-pieces b J L c)
+      rw (text-pieces j L c)
       (omega (arith, length-append (runs_part ++ moves_part) last_part, length-append runs_part moves_part, p, q, s))

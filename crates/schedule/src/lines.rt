@@ -36,7 +36,7 @@ pub enum Line {
 fn run_of(job: &Job<'_>, i: u64, processor: u64, start: u64) -> Result<Line, Fault>
     ensures { as_reading result ≡ as_run (instance_in job.now) (i ∷ processor ∷ start ∷ []) }
 {
-    let processors = job.shape.board.blue.processors + job.shape.board.red.processors;
+    let processors = job.board.blue.processors + job.board.red.processors;
     if between(i, Board::MIN_TASK, Board::MAX_TASK)
         && between(processor, 1, processors)
         && between(start, Board::MIN_TICK, Board::MAX_TICK)

@@ -1,5 +1,5 @@
 // Reads a timetable: its due lines, one after the other.
-ghost use Rattle.std.specs.Prelude.{◌≡◌, ◌+◌, ◌≤◌, IfOk};
+ghost use Rattle.std.specs.Prelude.{◌≡◌, ◌+◌, ◌≤◌, IfOk, length};
 ghost use Rattle.rules.specs.Limits.{max_tasks, max_files};
 ghost use Rattle.rules.specs.Model.{Schedule as Timetable, task_count, file_count};
 ghost use Rattle.rules.specs.Text.{lines_of};
@@ -7,7 +7,8 @@ ghost use Rattle.rules.specs.ScheduleText.{schedule_line, run_of, move_of, claim
 ghost use Rattle.text.specs.Due.{TakesDue};
 ghost use Rattle.model.specs.Claims.{as_claim};
 ghost use Rattle.model.specs.Jobs.{instance_in};
-ghost use Rattle.model.specs.Layout.{entries_of, schedule_of};
+ghost use Rattle.model.specs.Layout.{entries_of};
+ghost use Rattle.model.specs.Jobs.{schedule_of};
 ghost use Rattle.schedule.specs.Reading.{as_run, GoesOn, IsRead, nothing, runs_of};
 
 use crate::lines::{Line, next_line};
@@ -85,14 +86,14 @@ fn read_runs<'a>(
     schedule: &mut Schedule,
 ) -> Result<&'a [u8], Refusal>
     ensures { let I = instance_in job.now in
-        GoesOn (λ r. read_moves I (file_count I) (runs_of job.now.shape.tasks (entries_of schedule.new)) (job.now.shape.tasks + 1) (lines_of r.now))
+        GoesOn (λ r. read_moves I (file_count I) (runs_of (length job.now.tasks.now) (entries_of schedule.new)) (length job.now.tasks.now + 1) (lines_of r.now))
         (read_runs I (task_count I) nothing 1 (lines_of paper.now)) result }
 {
     let mut rest = paper;
-    for i in 0..job.shape.tasks {
+    for i in 0..job.tasks.len() {
         let task = i as u64 + 1;
         let due = due_run(job, rest, task).map_err(|fault| Refusal::Timetable(fault, task))?;
-        layout::set_run(schedule, i, due.value.processor, due.value.start);
+        schedule.set_run(i, due.value.processor, due.value.start);
         rest = due.rest;
     }
     Ok(rest)
@@ -108,24 +109,24 @@ fn read_moves<'a>(
 ) -> Result<Place<'a>, Refusal>
     requires { line ≤ max_tasks + 1 }
     ensures goes_on { let I = instance_in job.now in
-        GoesOn (λ p. read_claim I (schedule_of job.now.shape schedule.new) p.line (lines_of p.rest.now))
-        (read_moves I (file_count I) (runs_of job.now.shape.tasks (entries_of schedule.old)) line (lines_of paper.now)) result }
+        GoesOn (λ p. read_claim I (schedule_of job.now schedule.new) p.line (lines_of p.rest.now))
+        (read_moves I (file_count I) (runs_of (length job.now.tasks.now) (entries_of schedule.old)) line (lines_of paper.now)) result }
     ensures upper_bound { IfOk result (λ p. p.line ≤ line + max_files) }
 {
     let mut rest = paper;
     let mut next = line;
-    for k in 0..job.shape.files {
+    for k in 0..job.files.len() {
         if job.moves(schedule, k) {
             let maker = job.maker(k) as u64 + 1;
             let reader = job.reader(k) as u64 + 1;
             let due = due_move(job, rest, maker, reader).map_err(|fault| Refusal::Timetable(
                 fault, next,
             ))?;
-            layout::set_move_start(schedule, k, due.value);
+            schedule.set_move_start(k, due.value);
             rest = due.rest;
             next += 1;
         } else {
-            layout::set_move_start(schedule, k, 0);
+            schedule.set_move_start(k, 0);
         }
     }
     Ok(Place { rest, line: next })
@@ -146,12 +147,12 @@ fn read_claim(job: &Job<'_>, paper: &[u8], line: u64) -> Result<Claim, Refusal>
 
 // Reads a timetable into the schedule.
 pub fn read(job: &Job<'_>, paper: &[u8], schedule: &mut Schedule) -> Result<Claim, Refusal>
-    ensures { IsRead (schedule_of job.now.shape schedule.new) result (read_schedule (instance_in job.now) paper.now) }
+    ensures { IsRead (schedule_of job.now schedule.new) result (read_schedule (instance_in job.now) paper.now) }
 {
     if Board::MAX_TEXT < paper.len() {
         return Err(Refusal::Timetable(Fault::TooLong, 0));
     }
     let behind_runs = read_runs(job, paper, schedule)?;
-    let behind_moves = read_moves(job, behind_runs, job.shape.tasks as u64 + 1, schedule)?;
+    let behind_moves = read_moves(job, behind_runs, job.tasks.len() as u64 + 1, schedule)?;
     read_claim(job, behind_moves.rest, behind_moves.line)
 }

@@ -1,7 +1,7 @@
 -- `mark_into` meets its contract: what is read is judged, what is not is refused.
 use Rattle.std.proofs.lemmas.Result.{err_from_is_err_and}
-use Rattle.model.specs.Jobs.{instance_in}
-use Rattle.model.specs.Layout.{job_of, entries_of, schedule_of}
+use Rattle.model.specs.Jobs.{instance_in, schedule_of}
+use Rattle.model.specs.Layout.{entries_of}
 use Rattle.model.proofs.SpelledLaws.{spelled-placed, spelled-bounds}
 use Rattle.schedule.proofs.ReadLaws.{read-spellable, was_read}
 use Rattle.mark_text.proofs.PaperLaws.{paper-judged, paper-refused}
@@ -16,20 +16,18 @@ returns-in_err-claim c =
 pub invariant_of-timetable : goal.invariant_of-timetable
 invariant_of-timetable c =
     let j = c.args.job.now in
-    let r = was_read (instance_in j) c.args.paper.now (schedule_of j.shape c.read.new.schedule) c.read.result c.read.ensures c.in_ok-claim.was in
+    let r = was_read (instance_in j) c.args.paper.now (schedule_of j c.read.new.schedule) c.read.result c.read.ensures c.in_ok-claim.was in
     let L = entries_of c.read.new.schedule in
-    let J = job_of j.numbers.now in
-    record { in_bounds = spelled-bounds j.shape J L _ (read-spellable j.shape J L _ c.args.paper.now r) }
+    record { in_bounds = spelled-bounds j c.read.new.schedule _ (read-spellable j L _ c.args.paper.now r) }
 
 pub judge-requires-clause-placed : goal.judge-requires-clause-placed
 judge-requires-clause-placed c =
     let j = c.args.job.now in
-    let r = was_read (instance_in j) c.args.paper.now (schedule_of j.shape c.read.new.schedule) c.read.result c.read.ensures c.in_ok-claim.was in
+    let r = was_read (instance_in j) c.args.paper.now (schedule_of j c.read.new.schedule) c.read.result c.read.ensures c.in_ok-claim.was in
     let L = entries_of c.read.new.schedule in
-    let J = job_of j.numbers.now in
-    spelled-placed j.shape J L _ (read-spellable j.shape J L _ c.args.paper.now r)
+    spelled-placed j c.read.new.schedule _ (read-spellable j L _ c.args.paper.now r)
 
 pub returns : goal.returns
 returns c =
     let j = c.args.job.now in
-    paper-judged (instance_in j) c.args.paper.now (schedule_of j.shape c.read.new.schedule) c.read.result c.read.ensures c.in_ok-claim.was c.judge.ensures
+    paper-judged (instance_in j) c.args.paper.now (schedule_of j c.read.new.schedule) c.read.result c.read.ensures c.in_ok-claim.was c.judge.ensures

@@ -13,7 +13,7 @@ use Rattle.schedule.proofs.reader.read_moves.Goals as goal
 use Rattle.schedule.proofs.reader.read_moves.Goals.{then-moves+in_ok-due, else-moves}
 
 pub loop-k-init : goal.loop-k-init
-loop-k-init c = moves-start _ _ _ _ _
+loop-k-init c = moves-start _ _ _ _
 
 pub returns-in_err-due-clause-goes_on : goal.returns-in_err-due-clause-goes_on
 returns-in_err-due-clause-goes_on c =

@@ -12,7 +12,7 @@ use Rattle.schedule.proofs.ReadLoops.{runs-start, runs-refused, runs-next, runs-
 use Rattle.schedule.proofs.reader.read_runs.Goals as goal
 
 pub loop-i-init : goal.loop-i-init
-loop-i-init c = runs-start _ _ _ _
+loop-i-init c = runs-start _ _ _
 
 pub returns-in_err-due : goal.returns-in_err-due
 returns-in_err-due c =
