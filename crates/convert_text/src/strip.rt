@@ -2,7 +2,7 @@
 ghost use Rattle.std.specs.Prelude.{◌≡◌};
 ghost use Rattle.rules.specs.Promises.{WellFormed, Spellable};
 ghost use Rattle.rules.specs.Validity.{AllOnTime, true_claim};
-ghost use Rattle.rules.specs.Conversion.{added_count, stripped, stripped_text, output};
+ghost use Rattle.rules.specs.Conversion.{added_count, stripped_text, output};
 ghost use Rattle.rules.specs.ConversionPromises.{Convertible};
 ghost use Rattle.rules.specs.Stripping.{strip_on};
 ghost use Rattle.model.specs.Claims.{as_claim};
@@ -10,6 +10,7 @@ ghost use Rattle.model.specs.Jobs.{instance_in, schedule_in};
 ghost use Rattle.model.specs.Layout.{entries_of, schedule_of, Placed};
 ghost use Rattle.conversion.specs.Widened.{widened};
 ghost use Rattle.convert_text.specs.Answers.{as_output};
+ghost use Rattle.convert_text.specs.Converts.{left_in};
 
 use crate::convert::convert_job;
 use conversion::added::added;
@@ -42,11 +43,9 @@ fn true_claim(t: &Timetable) -> Claim
 fn write_left(job: &Job, schedule: &layout::Schedule, out: &mut [u8]) -> Result<usize, Refusal>
     requires well_formed { WellFormed (instance_in job.now) }
     requires convertible { Convertible (instance_in job.now) }
-    requires spellable { Spellable (instance_in job.now)
-        (stripped (instance_in job.now) (schedule_of (widened job.now.shape (added_count (instance_in job.now))) schedule.now))
-        (true_claim (instance_in job.now) (stripped (instance_in job.now) (schedule_of (widened job.now.shape (added_count (instance_in job.now))) schedule.now))) }
-    requires all_on_time { AllOnTime (instance_in job.now)
-        (stripped (instance_in job.now) (schedule_of (widened job.now.shape (added_count (instance_in job.now))) schedule.now)) }
+    requires spellable { Spellable (instance_in job.now) (left_in job.now schedule.now)
+        (true_claim (instance_in job.now) (left_in job.now schedule.now)) }
+    requires all_on_time { AllOnTime (instance_in job.now) (left_in job.now schedule.now) }
     ensures { as_output result out.new ≡
         output (stripped_text (instance_in job.now) (schedule_of (widened job.now.shape (added_count (instance_in job.now))) schedule.now)) out.old }
 {
