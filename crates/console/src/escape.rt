@@ -70,10 +70,8 @@ fn write_part(to: &impl Print, part: &[u8]) -> Result<()>
 
 // Writes a text, escaped, to standard output or standard error; stops at the first write that fails, and returns why it failed.
 pub fn write_escaped(to: &impl Print, text: &[u8]) -> Result<()> {
-    let mut rest = text;
-    while 1024 < rest.len() {
-        write_part(to, &rest[..1024])?;
-        rest = &rest[1024..];
+    for part in text.chunks(1024) {
+        write_part(to, part)?;
     }
-    write_part(to, rest)
+    Ok(())
 }

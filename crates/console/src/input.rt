@@ -15,6 +15,7 @@ fn read_all(from: &mut impl Read, buf: &mut [u8]) -> Result<usize>
     ensures { IfOk result (λ n. IsPrefixLen n buf.new) }
 {
     let mut n = 0;
+    // std's read_to_end wants a Vec, on the heap; its read_exact fails where the input ends early
     while n < buf.len() {
         let more = from.read(&mut buf[n..])?;
         if more == 0 {

@@ -1,7 +1,7 @@
--- What converting a job's numbers comes to.
+-- What converting a job's numbers comes to, and what stripping leaves.
 use Rattle.std.specs.Prelude.{ℕ, ◌+◌, List, ◌≡◌, Result, Ok, Err}
 use Rattle.rules.specs.Model.{Instance, Schedule, task_count, file_count}
-use Rattle.rules.specs.Conversion.{Output, added_count, converted, unwritten, if_convertible}
+use Rattle.rules.specs.Conversion.{Output, added_count, converted, stripped, unwritten, if_convertible}
 use Rattle.rules.specs.ConversionPromises.{Convertible}
 use Rattle.rules.specs.declared.Board.{Board}
 use Rattle.rules.specs.declared.refusal.Refusal.{Refusal}
@@ -24,3 +24,7 @@ Converts b I (Err r) wide =
 -- a stored schedule as one of the converted job
 abbrev pub wide_schedule : Instance → StoredSchedule → Schedule
 wide_schedule I xs = schedule_from (added_count I + task_count I) (added_count I + file_count I) (entries_of xs)
+
+-- what is left of it, for the job itself
+abbrev pub left_in : Instance → StoredSchedule → Schedule
+left_in I xs = stripped I (wide_schedule I xs)

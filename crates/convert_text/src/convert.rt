@@ -28,7 +28,8 @@ pub fn convert_job(job: &Job, wide: &mut Numbers) -> Result<(), Refusal>
     Ok(())
 }
 
-// Writes a job's sheet, if the buffer is long enough, and answers how many bytes that takes.
+// Writes a job's sheet, if the buffer is long enough, and answers how many bytes that takes. One function for this and `write_plan` would
+// take the size and a closure that writes, with clauses longer than either body.
 fn write_sheet(job: &Job, out: &mut [u8]) -> Result<usize, Refusal>
     ensures { as_output result out.new ≡ output (instance_text (instance_in job.now)) out.old }
 {

@@ -2,13 +2,13 @@
 ghost use Rattle.std.specs.Prelude.{◌≡◌};
 ghost use Rattle.rules.specs.Promises.{WellFormed, Spellable};
 ghost use Rattle.rules.specs.Validity.{AllOnTime, true_claim};
-ghost use Rattle.rules.specs.Conversion.{stripped, stripped_text, output};
+ghost use Rattle.rules.specs.Conversion.{stripped_text, output};
 ghost use Rattle.rules.specs.ConversionPromises.{Convertible};
 ghost use Rattle.rules.specs.Stripping.{strip_on};
 ghost use Rattle.model.specs.Claims.{as_claim};
 ghost use Rattle.model.specs.Jobs.{instance_in, schedule_in, AllPlaced};
 ghost use Rattle.convert_text.specs.Answers.{as_output};
-ghost use Rattle.convert_text.specs.Converts.{wide_schedule};
+ghost use Rattle.convert_text.specs.Converts.{wide_schedule, left_in};
 
 use crate::convert::convert_job;
 use conversion::added::added;
@@ -41,9 +41,9 @@ fn true_claim(t: &Timetable) -> Claim
 fn write_left(job: &Job, schedule: &Schedule, out: &mut [u8]) -> Result<usize, Refusal>
     requires well_formed { WellFormed (instance_in job.now) }
     requires convertible { Convertible (instance_in job.now) }
-    requires spellable { let P = stripped (instance_in job.now) (wide_schedule (instance_in job.now) schedule.now) in
-        Spellable (instance_in job.now) P (true_claim (instance_in job.now) P) }
-    requires all_on_time { AllOnTime (instance_in job.now) (stripped (instance_in job.now) (wide_schedule (instance_in job.now) schedule.now)) }
+    requires spellable { Spellable (instance_in job.now) (left_in (instance_in job.now) schedule.now)
+        (true_claim (instance_in job.now) (left_in (instance_in job.now) schedule.now)) }
+    requires all_on_time { AllOnTime (instance_in job.now) (left_in (instance_in job.now) schedule.now) }
     ensures { as_output result out.new ≡
         output (stripped_text (instance_in job.now) (wide_schedule (instance_in job.now) schedule.now)) out.old }
 {
