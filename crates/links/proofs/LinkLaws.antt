@@ -10,9 +10,9 @@ use lib.Seq.{get_or-set_same, get_or-set_other}
 use borrow.Author.Tests.{eqb-true, eq-eqb, ne_eqb}
 use Rattle.rules.specs.Limits.{max_tasks, max_files}
 use Rattle.rules.specs.Model.{Instance, task_count, file_count}
-use Rattle.model.specs.declared.layout.Shape.{Shape}
-use Rattle.model.specs.Layout.{Job, instance_from}
-use Rattle.model.proofs.LayoutLaws.{task-count, file-count}
+use Rattle.model.specs.declared.job.Job.{Job}
+use Rattle.model.specs.Jobs.{instance_in}
+use Rattle.model.proofs.JobLaws.{tasks-in, files-in}
 use Rattle.std.specs.Prelude.{Option, None, Some}
 use Rattle.std.proofs.lemmas.Option.{none-some, same_Some}
 use Rattle.links.specs.declared.chains.Chains.{Chains}
@@ -68,9 +68,9 @@ module _ {n : ℕ} {p : ℕ → Bool} {k : ℕ} where
 
 -- ---- the chains
 
-module _ (b : Shape) (J : Job) where
+module _ (j : Job) where
   abbrev I : Instance
-  I = instance_from b J
+  I = instance_in j
 
   -- before any file
   abbrev pub no_chains : Chains
@@ -81,18 +81,18 @@ module _ (b : Shape) (J : Job) where
   with_link c k t = record { first = set c.first t (Some k); next = set c.next k (first_of c t) }
 
   module _ (has : ℕ → ℕ → Bool) where
-    pub chained-none : b.tasks ≤ max_tasks → ChainedFrom I has no_chains b.files
+    pub chained-none : (length j.tasks.now) ≤ max_tasks → ChainedFrom I has no_chains (length j.files.now)
     chained-none l = record {
-      begins = λ i h. next-none (sym (file-count b J)) (get_or-replicate max_tasks i None None (omega (arith, task-count b J)));
-      goes_on = λ i j a u _. absurd (omega (arith, file-count b J));
+      begins = λ i h. next-none (sym (files-in j)) (get_or-replicate max_tasks i None None (omega (arith, tasks-in j)));
+      goes_on = λ i l a u _. absurd (omega (arith, files-in j));
     }
 
-    pub chained-turn : {c : Chains} {k t : ℕ} → k < b.files → t < b.tasks → b.tasks ≤ length c.first → b.files ≤ length c.next
+    pub chained-turn : {c : Chains} {k t : ℕ} → k < (length j.files.now) → t < (length j.tasks.now) → (length j.tasks.now) ≤ length c.first → (length j.files.now) ≤ length c.next
         → ((i : ℕ) → eqb t i ≡ has i k) → {m : ℕ} → m ≡ suc k → ChainedFrom I has c m → ChainedFrom I has (with_link c k t) k
     chained-turn {c} {k} {t} u l few room at e g =
         let f : ChainedFrom I has c (suc k) = rw e at g in
-        let in-files : k < file_count I = omega (arith, file-count b J) in
-        let in-tasks : t < task_count I = omega (arith, task-count b J) in
+        let in-files : k < file_count I = omega (arith, files-in j) in
+        let in-tasks : t < task_count I = omega (arith, tasks-in j) in
         record {
           begins = λ i h. elim (ℕ_discrete i t) [
             | yes e ↦ next_here in-files (sym (at i) ∙ eq-eqb t i (sym e)) (rw e (get_or-set_same c.first t (Some k) None (omega arith)))

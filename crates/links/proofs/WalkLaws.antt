@@ -1,11 +1,12 @@
 -- A walk along a chain, by what `first` and `next` find.
+use lib.ListN.{length}
 use Prim.Native.Nat.{ℕ, ◌<◌}
 use mathlib.Core.Bool.{Bool, true}
 use mathlib.Core.Path.{◌≡◌}
 use Rattle.std.specs.Prelude.{Option, None, Some}
-use Rattle.model.specs.declared.layout.Shape.{Shape}
-use Rattle.model.specs.Layout.{Job, instance_from}
-use Rattle.model.proofs.LayoutLaws.{file-count}
+use Rattle.model.specs.declared.job.Job.{Job}
+use Rattle.model.specs.Jobs.{instance_in}
+use Rattle.model.proofs.JobLaws.{files-in}
 use Rattle.rules.specs.Model.{file_count}
 use Rattle.links.specs.Chains.{index_or, Next}
 
@@ -21,9 +22,9 @@ module _ {n : ℕ} {p : ℕ → Bool} {k : ℕ} {r : Option ℕ} where
     holds = λ j e. let h : j < n → p j ≡ true = rw e at x.next.holds in h (x.exists j e);
   }
 
--- by the counts of a shape
-pub next-in : (b : Shape) (J : Job) {p : ℕ → Bool} {k : ℕ} {r : Option ℕ} → Next (file_count (instance_from b J)) p k r → Next b.files p k r
-next-in b J x = rw (file-count b J) at x
+-- by the count of a job
+pub next-in : (j : Job) {p : ℕ → Bool} {k : ℕ} {r : Option ℕ} → Next (file_count (instance_in j)) p k r → Next (length j.files.now) p k r
+next-in j x = rw (files-in j) at x
 
 module _ (n : ℕ) {r : Option ℕ} where
   pub come : {k : ℕ} → r ≡ Some k → index_or n r ≡ k

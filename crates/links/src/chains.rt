@@ -1,5 +1,5 @@
 // The chains of the files at one end.
-ghost use Rattle.std.specs.Prelude.{◌≡◌, ℕ, ◌<◌, eqb};
+ghost use Rattle.std.specs.Prelude.{◌≡◌, ℕ, ◌<◌, eqb, length};
 ghost use Rattle.rules.specs.Limits.{max_tasks, max_files};
 ghost use Rattle.model.specs.Jobs.{instance_in};
 ghost use Rattle.links.specs.Chains.{has_at, first_of, next_of, Chained};
@@ -41,9 +41,9 @@ impl Chains {
 
 // The task at that end of file k.
 fn task_at(job: &Job, end: End, k: usize) -> usize
-    requires { k < job.now.shape.files }
+    requires { k < length job.now.files.now }
     ensures by_index { (i : ℕ) → eqb result i ≡ has_at end (instance_in job.now) i k }
-    ensures upper_bound { result < job.now.shape.tasks }
+    ensures upper_bound { result < length job.now.tasks.now }
 {
     match end {
         End::Maker => job.maker(k),
@@ -59,7 +59,7 @@ pub fn chain(job: &Job, end: End) -> Chains
         first: [None; Board::MAX_TASKS],
         next: [None; Board::MAX_FILES],
     };
-    for k in (0..job.shape.files).rev() {
+    for k in (0..job.files.len()).rev() {
         let i = task_at(job, end, k);
         chains.next[k] = chains.first[i];
         chains.first[i] = Some(k as u16);

@@ -23,7 +23,7 @@ pub struct Links<'a> {
 }
 
 impl Links<'_> {
-    ghost use Rattle.std.specs.Prelude.{◌≡◌, ℕ, ◌<◌, suc, true};
+    ghost use Rattle.std.specs.Prelude.{◌≡◌, ℕ, ◌<◌, suc, true, length};
     ghost use Rattle.rules.specs.Model.{file_count};
     ghost use Rattle.model.specs.Jobs.{instance_in};
     ghost use Rattle.links.specs.Chains.{Next, has_at};
@@ -41,7 +41,7 @@ impl Links<'_> {
 
     // The first of the files that have the task at that end.
     pub fn first(&self, end: End, task: usize) -> Option<usize>
-        requires { task < self.now.job.shape.tasks }
+        requires { task < length self.now.job.tasks.now }
         ensures { Next (file_count (instance_in self.now.job)) (has_at end (instance_in self.now.job) task) 0 result }
     {
         match end {
@@ -52,7 +52,7 @@ impl Links<'_> {
 
     // The next of them behind file k.
     pub fn next(&self, end: End, k: usize) -> Option<usize>
-        requires { k < self.now.job.shape.files }
+        requires { k < length self.now.job.files.now }
         ensures { (i : ℕ) → has_at end (instance_in self.now.job) i k ≡ true →
             Next (file_count (instance_in self.now.job)) (has_at end (instance_in self.now.job) i) (suc k) result }
     {
