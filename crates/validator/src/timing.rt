@@ -50,12 +50,12 @@ pub fn first_early(t: &Timetable) -> Option<usize>
     ensures lowest { unwrap_or result t.now.job.shape.tasks ≡
         first_below (task_count (instance_in t.now.job)) (reads_early (instance_in t.now.job) (schedule_in t.now)) }
 {
-    let tasks = t.job.shape.tasks;
-    let mut first = tasks;
+    let mut first = None;
     for k in 0..t.job.shape.files {
         if early_file(t, k) {
-            first = first.min(t.job.reader(k));
+            let reader = t.job.reader(k);
+            first = Some(first.unwrap_or(reader).min(reader));
         }
     }
-    if first < tasks { Some(first) } else { None }
+    first
 }

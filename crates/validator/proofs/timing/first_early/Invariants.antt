@@ -1,5 +1,7 @@
--- `first_early` meets its contract. The invariant: the lowest reader of an early file of those passed.
-use Rattle.std.proofs.Common.{◌≡◌, ◌≤◌}
+-- `first_early` meets its contract. The invariant: the lowest reader of an early file of those passed, if there is one.
+use Rattle.std.proofs.Common.{◌≡◌, ◌<◌}
+use Rattle.std.specs.Prelude.{IfSome}
+use Rattle.std.specs.Option.{unwrap_or}
 use Rattle.rules.specs.Validity.{early}
 use Rattle.model.specs.Jobs.{instance_in, schedule_in}
 use Rattle.validator.specs.Least.{least_where}
@@ -9,4 +11,5 @@ use Rattle.validator.proofs.timing.first_early.Given as goal
 abbrev pub invariant-loop-k : goal.invariant-loop-k
 invariant-loop-k l =
     let I = instance_in l.t.job in
-    (l.first ≤ l.t.job.shape.tasks) × (l.first ≡ least_where l.k l.t.job.shape.tasks (early I (schedule_in l.t)) (reader_of I))
+    let n = l.t.job.shape.tasks in
+    IfSome l.first (λ i. i < n) × (unwrap_or l.first n ≡ least_where l.k n (early I (schedule_in l.t)) (reader_of I))
