@@ -50,6 +50,7 @@ pub fn first_early(t: &Timetable) -> Option<usize>
     ensures lowest { unwrap_or result t.now.job.shape.tasks ≡
         first_below (task_count (instance_in t.now.job)) (reads_early (instance_in t.now.job) (schedule_in t.now)) }
 {
+    // no chain: the law of std's `filter` asks what the test says of every number, and `early_file` says it of the files alone
     let mut first = None;
     for k in 0..t.job.shape.files {
         if early_file(t, k) {
