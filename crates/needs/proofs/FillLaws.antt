@@ -1,4 +1,4 @@
--- The table as it is filled, task by task, and as it is renewed, file by file, after a placing.
+-- The needs of all tasks as they are filled, task by task, and as they are renewed, file by file, after a placing.
 use Prim.Native.Nat.{ℕ, suc, ◌+◌, ◌≤◌, ◌<◌}
 use mathlib.Core.Bool.{true, false}
 use mathlib.Core.List.{List}

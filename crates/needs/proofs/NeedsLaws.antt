@@ -1,4 +1,4 @@
--- The table in a planner: its bounds before it is filled, its marks, and what a placing leaves of it.
+-- The needs of all tasks in a planner: their bounds before they are filled, their marks, and what a placing leaves of them.
 use Prim.Native.Nat.{ℕ, ◌<◌}
 use mathlib.Core.Bool.{true, not, cond, ◌&&◌}
 use mathlib.Core.Logic.{◌≢◌}
@@ -57,7 +57,7 @@ module _ (I : Instance) (P P' : Schedule) (j : ℕ) (own : run_at P' j ≡ run_a
     longest = x.longest ∙ sym (max-cong (file_count I) _ _ (λ k l. ap (λ y. cond y (move_time_at I k) 0) (crossing-same c k l)));
   }
 
--- ---- a placing leaves the table right but for the task placed and the readers of what it makes
+-- ---- a placing leaves the needs right but for the task placed and the readers of what it makes
 module _ (I : Instance) (Q : Partial) (i : ℕ) (c : Rules.Colour) (s : ℕ) where
   abbrev before : Schedule
   before = Q.schedule

@@ -35,7 +35,8 @@ pub struct Needs {
 // The sizes of the files that have the task at that end, along their chain.
 fn sizes(links: &Links, end: End, task: usize) -> u64
     requires { task < links.now.job.shape.tasks }
-    ensures value { result ≡ sum_where (file_count (instance_in links.now.job)) (has_at end (instance_in links.now.job) task) (size_at (instance_in links.now.job)) }
+    ensures value { result ≡ sum_where (file_count (instance_in links.now.job))
+        (has_at end (instance_in links.now.job) task) (size_at (instance_in links.now.job)) }
     ensures upper_bound { result ≤ most_files }
 {
     let mut sum: u64 = 0;

@@ -3,7 +3,7 @@ use Rattle.std.proofs.Common.{ℕ, ◌+◌, ◌-◌, ◌<◌, ◌≤◌, ◌≡�
 use Rattle.std.proofs.lemmas.List.{take_rest, get_or-drop, length-drop}
 use Rattle.rules.proofs.Tests.{by_order, and-swap, eqb-sym, is_false, clash}
 use Rattle.runs.specs.First.{FirstOverlap}
-use Rattle.runs.specs.Scan.{overlapping, overlaps_at, no_run}
+use Rattle.runs.specs.Overlaps.{overlapping, overlaps_at, no_run}
 use Rattle.runs.specs.declared.Run.{Run}
 
 -- ---- an overlap is mutual

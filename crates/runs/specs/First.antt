@@ -1,6 +1,6 @@
 -- The lowest run of a list that overlaps another of it.
 use Rattle.std.specs.Prelude.{ℕ, ◌<◌, ◌≤◌, ◌≡◌, true, false, ◌≢◌, List, get_or}
-use Rattle.runs.specs.Scan.{overlapping, no_run}
+use Rattle.runs.specs.Overlaps.{overlapping, no_run}
 use Rattle.runs.specs.declared.Run.{Run}
 
 -- of the first n runs of the list, f is the lowest index whose run overlaps another's, or n where no two overlap

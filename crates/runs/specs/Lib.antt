@@ -1,3 +1,3 @@
--- Runs of a schedule: what it is that two of them overlap, the lowest of a list that overlaps another, and one step of the search for it.
-pub mod Scan
+-- Runs of a schedule: what it is that two of them overlap, and the lowest of a list that overlaps another.
+pub mod Overlaps
 pub mod First

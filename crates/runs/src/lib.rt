@@ -4,7 +4,7 @@
 ghost use Rattle.std.specs.Prelude.{◌≡◌, ◌<◌, ltb, length, IsTrue, ◌↔◌, SomeIndex, get_or, true, IfSome};
 ghost use Rattle.std.specs.Option.{unwrap_or};
 ghost use Rattle.runs.specs.First.{FirstOverlap};
-ghost use Rattle.runs.specs.Scan.{overlapping, overlaps_at, no_run};
+ghost use Rattle.runs.specs.Overlaps.{overlapping, overlaps_at, no_run};
 
 // A run of a task: on a processor, from its start until its finish.
 #[derive(Clone, Copy, Default)]
@@ -22,7 +22,7 @@ fn starts_before_finish(a: Run, b: Run) -> bool
 }
 
 // Whether two runs are on one processor and share an instant: each starts before the other's finish.
-#[tactic(auto, unfolding(crate::specs::Scan::overlapping))]
+#[tactic(auto, unfolding(crate::specs::Overlaps::overlapping))]
 pub fn overlapping_runs(a: Run, b: Run) -> bool
     ensures { result ≡ overlapping a b }
 {

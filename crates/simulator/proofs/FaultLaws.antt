@@ -15,7 +15,7 @@ use Rattle.rules.specs.Simulation.{shares_from, task_shares, shares_at, read_at,
 use Rattle.rules.proofs.Tests.{same_test, and-true, and-swap, eqb-sym}
 use Rattle.rules.proofs.CountLaws.{any_some, any_found}
 use Rattle.rules.proofs.ValidLaws.{more-over}
-use Rattle.runs.specs.Scan.{overlapping}
+use Rattle.runs.specs.Overlaps.{overlapping}
 use Rattle.runs.specs.declared.Run.{Run}
 use Rattle.model.specs.declared.residency.FileTimes.{FileTimes}
 use Rattle.model.specs.declared.residency.Transfer.{Transfer}

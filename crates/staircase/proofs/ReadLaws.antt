@@ -1,18 +1,21 @@
 -- Reading the steps from the end, and the least of their amounts.
 use Prim.Native.Nat.{ℕ, zero, suc, ◌+◌, ◌≤◌, ◌<◌, min, pred}
-use mathlib.Core.Bool.{Bool, true, false, cond}
+use mathlib.Core.Bool.{Bool, true, false}
 use mathlib.Core.List.{List, [], ◌∷◌}
 use mathlib.Core.Path.{◌≡◌, refl, sym, ◌∙◌, ap}
 use mathlib.Core.Option as Rules
 use native.Mathlib.Omega.{arith}
 use lib.Dec.{leb, ltb}
 use lib.ListN.{length, get_or, take}
-use borrow.Author.Tests.{le-leb, lt-leb, ltb-true, ltb-false, leb-true, lt-ltb, le-ltb}
-use Rattle.std.specs.Prelude.{Option, slice_get, option_map, IfSome}
+use borrow.Author.Tests.{le-leb, lt-leb, leb-true, lt-ltb, le-ltb}
+use Rattle.std.specs.Prelude.{Option, None, Some, IfSome}
+use Rattle.std.specs.Prelude.{option_map}
+use Rattle.std.specs.Option.{unwrap_or, option_or}
+use Rattle.std.specs.Bool.{then_some}
 use Rattle.std.proofs.lemmas.List.{length-map, get_or-take, length-take-le}
 use Rattle.rules.specs.Count.{settled_from, min_up_to}
 use Rattle.rules.specs.Staircase.{Step as Pair, step_at, suffices, free_from_steps, least_free}
-use Rattle.rules.proofs.Tests.{split, by_order, clash}
+use Rattle.rules.proofs.Tests.{by_order, clash}
 use Rattle.rules.proofs.CountLaws.{settled-bound, settled-holds, settled-least, settled-again, min-cong}
 use Rattle.staircase.specs.declared.Step.{Step}
 use Rattle.staircase.specs.Steps.{as_step, as_steps, no_step, as_option, Position}
@@ -50,47 +53,52 @@ unfolding settled_from
 settled_same zero p q h = refl
 settled_same (suc n) p q h = rw (h n (omega arith), settled_same n p q (λ k l. h k (omega arith)))
 
--- the tick of step k, as the code reads it
-pub read_tick : (xs : List Step) (k : ℕ) (r : Option ℕ) → r ≡ option_map (λ s. s.tick) (slice_get xs k)
-    → as_option r ≡ cond (ltb k (length xs)) (Rules.some (step_at (as_steps xs) k).tick) Rules.none
-read_tick [] k r e = rw (e, le-ltb k 0 (omega arith)) refl
-read_tick (x ∷ xs) zero r e = rw (e, lt-ltb 0 (suc (length xs)) (omega arith)) refl
-read_tick (x ∷ xs) (suc k) r e = read_tick xs k r e ∙ sym (ap (λ b. cond b (Rules.some (step_at (as_steps xs) k).tick) Rules.none) (ltb-suc k (length xs)))
-  where
-    ltb-suc : (m n : ℕ) → ltb (suc m) (suc n) ≡ ltb m n
-    ltb-suc m n = split (ltb m n)
-        (λ e. rw e (lt-ltb (suc m) (suc n) (omega (arith, ltb-true m n e))))
-        (λ e. rw e (le-ltb (suc m) (suc n) (omega (arith, ltb-false m n e))))
+-- the index that the code answers, where there is none the number of steps
+pub first_or : (k n : ℕ) {r : Option ℕ} → k ≤ n → r ≡ then_some (ltb k n) k → unwrap_or r n ≡ k
+first_or k n l e = by_order k n
+    (λ h. rw (e, lt-ltb k n h))
+    (λ h. rw (e, le-ltb k n h) (omega arith))
 
--- a tick that is read is one of the steps' own
-pub tick_within : (xs : List Step) (k : ℕ) (r : Option ℕ) → r ≡ option_map (λ s. s.tick) (slice_get xs k) → (b : ℕ)
-    → ((j : ℕ) → j < length (as_steps xs) → (step_at (as_steps xs) j).tick ≤ b) → IfSome r (λ t. t ≤ b)
-tick_within [] k r e b h = rw e tt
-tick_within (x ∷ xs) zero r e b h = rw e (h 0 (omega arith))
-tick_within (x ∷ xs) (suc k) r e b h = tick_within xs k r e b (λ j l. h (suc j) (omega arith))
-
--- the greater need is read from the end of the steps
-pub read_all : (xs : List Step) (need k : ℕ) (r : Option ℕ) → k ≡ settled_from (length xs) (suffices (as_steps xs) need)
-    → r ≡ option_map (λ s. s.tick) (slice_get xs k) → as_option r ≡ free_from_steps (as_steps xs) need
+-- the tick of that step is from when on there is enough
+pub read_at : (xs : List Step) (need : ℕ) (o : Option ℕ) {r : Option ℕ} → unwrap_or o (length xs) ≡ settled_from (length xs) (suffices (as_steps xs) need)
+    → IfSome o (λ k. k < length xs) → r ≡ option_map (λ k. (get_or xs k no_step).tick) o → as_option r ≡ free_from_steps (as_steps xs) need
 unfolding free_from_steps
-read_all xs need k r e f = rw (length-map xs as_step, ← e) (read_tick xs k r f)
+read_at xs need None e h f = rw (length-map xs as_step, ← e, f, le-ltb (length xs) (length xs) (omega arith))
+read_at xs need (Some k) e h f = rw (length-map xs as_step, ← e, f, lt-ltb k (length xs) h) (ap Rules.some (sym (tick-is xs k)))
 
--- and the smaller from where that one was found
-pub read_some : (xs : List Step) (all part k j : ℕ) (r : Option ℕ) → part ≤ all → k ≡ settled_from (length xs) (suffices (as_steps xs) all)
-    → j ≡ settled_from (length (take k xs)) (suffices (as_steps (take k xs)) part) → r ≡ option_map (λ s. s.tick) (slice_get xs j)
-    → as_option r ≡ free_from_steps (as_steps xs) part
-read_some xs all part k j r l e f = read_all xs part j r (f ∙ short ∙ again)
-  where
-    bound : k ≤ length xs
-    bound = omega (arith, settled-bound (length xs) (suffices (as_steps xs) all))
+-- it is one of the steps' own
+pub tick_within : (xs : List Step) (o : Option ℕ) {r : Option ℕ} → IfSome o (λ k. k < length xs) → r ≡ option_map (λ k. (get_or xs k no_step).tick) o
+    → (b : ℕ) → ((j : ℕ) → j < length (as_steps xs) → (step_at (as_steps xs) j).tick ≤ b) → IfSome r (λ t. t ≤ b)
+tick_within xs None l e b h = rw e tt
+tick_within xs (Some k) l e b h = rw e (omega (arith, h k (omega (arith, length-map xs as_step)), tick-is xs k))
 
-    short : settled_from (length (take k xs)) (suffices (as_steps (take k xs)) part) ≡ settled_from k (suffices (as_steps xs) part)
-    short = rw (length-take-le k xs bound) (settled_same k (suffices (as_steps (take k xs)) part) (suffices (as_steps xs) part)
-        (λ i m. ap (leb part) (free-is (take k xs) i ∙ ap (λ (s : Step). s.free) (get_or-take k xs i no_step m) ∙ sym (free-is xs i))))
+-- ---- of two needs, the smaller looked for in front of where the greater was found, at t
 
-    again : settled_from k (suffices (as_steps xs) part) ≡ settled_from (length xs) (suffices (as_steps xs) part)
-    again = ap (λ m. settled_from m (suffices (as_steps xs) part)) e ∙ sym (settled-again (length xs) (suffices (as_steps xs) all) (suffices (as_steps xs) part)
-        (λ i m h. le-leb part _ (omega (arith, leb-true all _ h))))
+module _ (xs : List Step) (all part : ℕ) (l : part ≤ all) (t : Option ℕ) (e : unwrap_or t (length xs) ≡ settled_from (length xs) (suffices (as_steps xs) all))
+    {k : ℕ} (d : k ≡ unwrap_or t (length xs)) where
+  bound : k ≤ length xs
+  bound = omega (arith, e, settled-bound (length xs) (suffices (as_steps xs) all))
+
+  size : length (take k xs) ≡ k
+  size = length-take-le k xs bound
+
+  short : settled_from (length (take k xs)) (suffices (as_steps (take k xs)) part) ≡ settled_from k (suffices (as_steps xs) part)
+  short = rw size (settled_same k (suffices (as_steps (take k xs)) part) (suffices (as_steps xs) part)
+      (λ i m. ap (leb part) (free-is (take k xs) i ∙ ap (λ (s : Step). s.free) (get_or-take k xs i no_step m) ∙ sym (free-is xs i))))
+
+  again : settled_from k (suffices (as_steps xs) part) ≡ settled_from (length xs) (suffices (as_steps xs) part)
+  again = ap (λ m. settled_from m (suffices (as_steps xs) part)) (d ∙ e) ∙ sym (settled-again (length xs) (suffices (as_steps xs) all) (suffices (as_steps xs) part)
+      (λ i m h. le-leb part _ (omega (arith, leb-true all _ h))))
+
+  -- it is found there, at s, or else stands where the greater was found
+  pub first_part : (s : Option ℕ) → unwrap_or s (length (take k xs)) ≡ settled_from (length (take k xs)) (suffices (as_steps (take k xs)) part)
+      → unwrap_or (option_or s t) (length xs) ≡ settled_from (length xs) (suffices (as_steps xs) part)
+  first_part None f = sym (size ∙ d) ∙ f ∙ short ∙ again
+  first_part (Some j) f = f ∙ short ∙ again
+
+  pub part_exists : (s : Option ℕ) → IfSome s (λ j. j < length (take k xs)) → IfSome t (λ j. j < length xs) → IfSome (option_or s t) (λ j. j < length xs)
+  part_exists None h g = g
+  part_exists (Some j) h g = omega (arith, size, bound)
 
 -- ---- the position of a tick
 

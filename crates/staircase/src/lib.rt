@@ -102,11 +102,12 @@ impl Staircase {
             IfSome result.third (λ t. t ≤ b) × IfSome result.fourth (λ t. t ≤ b) }
     {
         let steps = self.steps.as_slice();
-        let k = settled(steps, all);
-        let j = settled(&steps[..k], some);
+        let third = settled(steps, all);
+        let before = &steps[..third.unwrap_or(steps.len())];
+        let fourth = settled(before, some).or(third);
         Starts {
-            third: tick_of(steps, k),
-            fourth: tick_of(steps, j),
+            third: tick_of(steps, third),
+            fourth: tick_of(steps, fourth),
         }
     }
 

@@ -1,6 +1,7 @@
 // Steps of a staircase: all of some changed, and the first of those that stay at an amount.
-ghost use Rattle.std.specs.Prelude.{◌≡◌, true, false, ℕ, suc, ◌+◌, ◌<◌, ◌≤◌, map, length, get_or, slice_get, option_map, ◌≢◌};
+ghost use Rattle.std.specs.Prelude.{◌≡◌, true, false, ℕ, suc, ◌+◌, ◌<◌, ◌≤◌, map, length, get_or, option_map, IfSome, ◌≢◌};
 ghost use Rattle.std.specs.Fn.{FnReturnsAt};
+ghost use Rattle.std.specs.Option.{unwrap_or};
 ghost use Rattle.rules.specs.Count.{settled_from};
 ghost use Rattle.rules.specs.Staircase.{free_by, suffices};
 ghost use Rattle.staircase.specs.Steps.{as_steps, no_step, change_by, max_free, with_change, Fit};
@@ -49,17 +50,19 @@ pub fn behind_last<F: Fn(&Step) -> bool>(steps: &[Step], test: F) -> usize
     0
 }
 
-// The first step from which on each has `need` free, or the number of steps.
-pub fn settled(steps: &[Step], need: u64) -> usize
-    ensures value { result ≡ settled_from (length steps.now) (suffices (as_steps steps.now) need) }
-    ensures within { result ≤ length steps.now }
+// The first step from which on each has `need` free, if there is one. The rules have the number of steps for none.
+pub fn settled(steps: &[Step], need: u64) -> Option<usize>
+    ensures value { unwrap_or result (length steps.now) ≡ settled_from (length steps.now) (suffices (as_steps steps.now) need) }
+    ensures exists { IfSome result (λ k. k < length steps.now) }
 {
-    behind_last(steps, |step| step.free < need)
+    let k = behind_last(steps, |step| step.free < need);
+    (k < steps.len()).then_some(k)
 }
 
 // The tick of step k, if there is one.
-pub fn tick_of(steps: &[Step], k: usize) -> Option<u64>
-    ensures { result ≡ option_map (λ s. s.tick) (slice_get steps.now k) }
+pub fn tick_of(steps: &[Step], k: Option<usize>) -> Option<u64>
+    requires { IfSome k (λ k. k < length steps.now) }
+    ensures { result ≡ option_map (λ k. (get_or steps.now k no_step).tick) k }
 {
-    steps.get(k).map(|step| step.tick)
+    k.map(|k| steps[k].tick)
 }

@@ -1,11 +1,11 @@
 -- The runs of all tasks and one turn of the loop over the files, and what they come to.
-use Prim.Native.Nat.{ℕ, ◌+◌, min}
+use Prim.Native.Nat.{ℕ, ◌+◌, ◌<◌, min}
 use mathlib.Core.Bool.{Bool, true, false, cond}
 use mathlib.Core.List.{List}
 use lib.ListN.{length}
-use Rattle.std.specs.Prelude.{Option}
+use Rattle.std.specs.Prelude.{Option, Some, None}
 use Rattle.std.specs.Option.{unwrap_or}
-use mathlib.Core.Path.{◌≡◌, sym, ◌∙◌}
+use mathlib.Core.Path.{◌≡◌, refl, sym, ap, ◌∙◌}
 use native.Mathlib.Omega.{arith}
 use Rattle.rules.specs.Count.{first_below}
 use Rattle.rules.specs.Model.{Instance, Schedule, task_count, file_count}
@@ -27,11 +27,15 @@ module _ (I : Instance) (P : Schedule) {n : ℕ} (t : task_count I ≡ n) where
 
   -- ---- 16
 
-  pub early-found : (k : ℕ) {m j r : ℕ} {x : Bool} → m ≡ least_where k n (early I P) (reader_of I) → x ≡ early I P k → x ≡ true → j ≡ reader_of I k
-      → r ≡ min m j → r ≡ least_where (k + 1) n (early I P) (reader_of I)
-  early-found k {m} {j} e g h q s =
+  lower-of : (o : Option ℕ) (j : ℕ) → j < n → min (unwrap_or o j) j ≡ min (unwrap_or o n) j
+  lower-of None j h = omega arith
+  lower-of (Some i) j h = refl
+
+  pub early-found : (k : ℕ) (o : Option ℕ) {j : ℕ} {x : Bool} → unwrap_or o n ≡ least_where k n (early I P) (reader_of I) → x ≡ early I P k → x ≡ true
+      → j ≡ reader_of I k → j < n → {u r : ℕ} → u ≡ unwrap_or o j → r ≡ min u j → r ≡ least_where (k + 1) n (early I P) (reader_of I)
+  early-found k o {j} e g h q l {u} y s =
       let z : cond (early I P k) (reader_of I k) n ≡ j = rw (sym g ∙ h, q) in
-      omega (arith, least-next n (early I P) (reader_of I) k)
+      omega (arith, least-next n (early I P) (reader_of I) k, lower-of o j l, s, ap (λ (w : ℕ). min w j) y, ap (λ (w : ℕ). min w j) e)
 
   pub early-passed : (k : ℕ) {m : ℕ} {x : Bool} → m ≡ least_where k n (early I P) (reader_of I) → x ≡ early I P k → x ≡ false
       → m ≡ least_where (k + 1) n (early I P) (reader_of I)

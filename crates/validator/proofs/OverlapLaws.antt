@@ -14,7 +14,7 @@ use Rattle.rules.specs.Validity.{overlap, overlaps}
 use Rattle.rules.proofs.CountLaws.{any_some, none_any, first-passed}
 use Rattle.runs.specs.declared.Run.{Run}
 use Rattle.runs.specs.First.{FirstOverlap}
-use Rattle.runs.specs.Scan.{overlapping, no_run}
+use Rattle.runs.specs.Overlaps.{overlapping, no_run}
 use Rattle.validator.specs.Records.{record_at, Records}
 
 module _ (I : Instance) (P : Schedule) where

@@ -2,7 +2,7 @@
 use Rattle.std.specs.Prelude.{ℕ, ◌<◌, ◌≡◌, List, get_or}
 use Rattle.rules.specs.Model.{Instance, Schedule, run_at, start_at, finish_at}
 use Rattle.runs.specs.declared.Run.{Run}
-use Rattle.runs.specs.Scan.{no_run}
+use Rattle.runs.specs.Overlaps.{no_run}
 
 abbrev pub record_at : Instance → Schedule → ℕ → Run
 record_at I P i = record { processor = (run_at P i).processor; start = start_at P i; finish = finish_at I P i }

@@ -50,12 +50,13 @@ pub fn first_early(t: &Timetable) -> Option<usize>
     ensures lowest { unwrap_or result (length t.now.job.tasks.now) ≡
         first_below (task_count (instance_in t.now.job)) (reads_early (instance_in t.now.job) (schedule_in t.now)) }
 {
-    let tasks = t.job.tasks.len();
-    let mut first = tasks;
+    // no chain: the law of std's `filter` asks what the test says of every number, and `early_file` says it of the files alone
+    let mut first = None;
     for k in 0..t.job.files.len() {
         if early_file(t, k) {
-            first = first.min(t.job.reader(k));
+            let reader = t.job.reader(k);
+            first = Some(first.unwrap_or(reader).min(reader));
         }
     }
-    if first < tasks { Some(first) } else { None }
+    first
 }

@@ -1,6 +1,8 @@
--- `first_early` meets its contract. The invariant: the lowest reader of an early file of those passed.
+-- `first_early` meets its contract. The invariant: the lowest reader of an early file of those passed, if there is one.
 use lib.ListN.{length}
-use Rattle.std.proofs.Common.{◌≡◌, ◌≤◌}
+use Rattle.std.proofs.Common.{◌≡◌, ◌<◌}
+use Rattle.std.specs.Prelude.{IfSome}
+use Rattle.std.specs.Option.{unwrap_or}
 use Rattle.rules.specs.Validity.{early}
 use Rattle.model.specs.Jobs.{instance_in, schedule_in}
 use Rattle.validator.specs.Least.{least_where}
@@ -10,4 +12,5 @@ use Rattle.validator.proofs.timing.first_early.Given as goal
 abbrev pub invariant-loop-k : goal.invariant-loop-k
 invariant-loop-k l =
     let I = instance_in l.t.job in
-    (l.first ≤ (length l.t.job.tasks.now)) × (l.first ≡ least_where l.k (length l.t.job.tasks.now) (early I (schedule_in l.t)) (reader_of I))
+    let n = (length l.t.job.tasks.now) in
+    IfSome l.first (λ i. i < n) × (unwrap_or l.first n ≡ least_where l.k n (early I (schedule_in l.t)) (reader_of I))
