@@ -1,4 +1,5 @@
 -- The demand of a task on a colour: of the files before the first of its chain, with one file added, up to the next of the chain, and of all files.
+use lib.ListN.{length}
 use Prim.Native.Nat.{ℕ, suc, ◌+◌, ◌≤◌, ◌<◌, max}
 use mathlib.Core.Bool.{true, false}
 use mathlib.Core.Path.{◌≡◌, refl, sym, ap, ◌∙◌}
@@ -6,30 +7,31 @@ use native.Mathlib.Omega.{arith}
 use native.Mathlib.Numerals.{add-one}
 use Rattle.rules.specs.Model.{Colour, Instance, Schedule, file_at, file_count, finish_at, made_at, size_at, move_time_at}
 use Rattle.rules.specs.Scheduling.{reads, crossing, arrival, crossing_size, crossing_time, input_start}
-use Rattle.model.specs.declared.layout.Shape.{Shape}
 use Rattle.model.specs.declared.crossing.Cost.{Cost}
 use Rattle.model.specs.Costs.{CostOf}
-use Rattle.model.specs.Layout.{Job, Entries, instance_from, schedule_from}
-use Rattle.model.proofs.LayoutLaws.{file-count}
+use Rattle.model.specs.declared.job.Job.{Job}
+use Rattle.model.specs.Layout.{Entries}
+use Rattle.model.specs.Jobs.{instance_in, schedule_by}
+use Rattle.model.proofs.JobLaws.{files-in}
 use Rattle.model.proofs.StepLaws.{sum-turn, max-turn}
 use Rattle.links.specs.Chains.{NextOf}
 use Rattle.links.proofs.ChainLaws.{sum_first, max-first, sum-skip, max-skip}
 use Rattle.needs.specs.declared.demand.Demand.{Demand}
 use Rattle.needs.specs.Demands.{DemandOf, DemandBelow, DemandBounds}
 
-module _ (b : Shape) (J : Job) (L : Entries) (i : ℕ) (c : Colour) where
+module _ (j : Job) (L : Entries) (i : ℕ) (c : Colour) where
   abbrev I : Instance
-  I = instance_from b J
+  I = instance_in j
 
   abbrev P : Schedule
-  P = schedule_from b L
+  P = schedule_by j L
 
   -- only a file that is read crosses
   crossing-only : (k : ℕ) → reads I i k ≡ false → crossing I P i c k ≡ false
   crossing-only k e = rw e
 
   -- before the first file that it reads
-  pub demand-first : {r : ℕ} → NextOf b.files (reads I i) 0 r → DemandBelow I P i c r (record { incoming = 0; arrival = 0; longest = 0 })
+  pub demand-first : {r : ℕ} → NextOf (length j.files.now) (reads I i) 0 r → DemandBelow I P i c r (record { incoming = 0; arrival = 0; longest = 0 })
   demand-first next = record {
     incoming = sym (sum_first next (crossing I P i c) crossing-only (size_at I));
     arrival = sym (max-first next (reads I i) (λ k e. e) (arrival I P i c));
@@ -37,7 +39,7 @@ module _ (b : Shape) (J : Job) (L : Entries) (i : ℕ) (c : Colour) where
   }
 
   -- file k, from what the accessors read
-  module _ {k : ℕ} (h : k < b.files) {d : Demand} (before : DemandBelow I P i c k d)
+  module _ {k : ℕ} (h : k < (length j.files.now)) {d : Demand} (before : DemandBelow I P i c k d)
       {m made : ℕ} {x : Cost} (maker : m ≡ (file_at I k).maker) (read : reads I i k ≡ true) (cost : CostOf I P i c k x)
       (finish : made ≡ finish_at I P m) where
     arrival-at : arrival I P i c k ≡ made + x.move_time
@@ -54,7 +56,7 @@ module _ (b : Shape) (J : Job) (L : Entries) (i : ℕ) (c : Colour) where
     }
 
   -- up to the next file that it reads
-  pub demand-skip : {k r : ℕ} {d : Demand} → NextOf b.files (reads I i) (suc k) r → DemandBelow I P i c (k + 1) d → DemandBelow I P i c r d
+  pub demand-skip : {k r : ℕ} {d : Demand} → NextOf (length j.files.now) (reads I i) (suc k) r → DemandBelow I P i c (k + 1) d → DemandBelow I P i c r d
   demand-skip {k} {r} {d} next x =
       let y : DemandBelow I P i c (suc k) d = rw (add-one k) at x in
       record {
@@ -63,10 +65,10 @@ module _ (b : Shape) (J : Job) (L : Entries) (i : ℕ) (c : Colour) where
         longest = y.longest ∙ sym (max-skip next (crossing I P i c) crossing-only (move_time_at I));
       }
 
-  pub demand-all : {n : ℕ} {d : Demand} → DemandBelow I P i c n d → n ≡ b.files → DemandOf I P i c d
+  pub demand-all : {n : ℕ} {d : Demand} → DemandBelow I P i c n d → n ≡ (length j.files.now) → DemandOf I P i c d
   unfolding crossing_size input_start crossing_time
   demand-all {n} {d} x e =
-      let g : n ≡ file_count I = e ∙ sym (file-count b J) in
+      let g : n ≡ file_count I = e ∙ sym (files-in j) in
       let y : DemandBelow I P i c (file_count I) d = rw g at x in
       record { incoming = y.incoming; arrival = y.arrival; longest = y.longest }
 

@@ -14,9 +14,9 @@ use Rattle.rules.specs.Model.{Instance, Schedule, task_count, file_count, file_a
 use Rattle.rules.specs.Scheduling.{reads, makes, ready, output_size}
 use Rattle.rules.specs.Staircase.{input_size}
 use Rattle.rules.proofs.Tests.{clash}
-use Rattle.model.specs.declared.layout.Shape.{Shape}
-use Rattle.model.specs.Layout.{Job, instance_from}
-use Rattle.model.proofs.LayoutLaws.{file-count, task-count}
+use Rattle.model.specs.declared.job.Job.{Job}
+use Rattle.model.specs.Jobs.{instance_in}
+use Rattle.model.proofs.JobLaws.{files-in, tasks-in}
 use Rattle.links.specs.Chains.{NextOf}
 use Rattle.needs.specs.declared.table.Need.{Need}
 use Rattle.needs.specs.declared.table.Needs.{Needs}
@@ -47,9 +47,9 @@ pub record RightFrom (I : Instance) (P : Schedule) (i n : ℕ) (xs : List Need) 
   pub sized : (j : ℕ) → j < task_count I → Sized I j (at xs j)
   pub admitted : (j : ℕ) → j < task_count I → ReadsNone I i n j → Admitted I P j (at xs j)
 
-module _ (b : Shape) (J : Job) (P : Schedule) where
+module _ (j : Job) (P : Schedule) where
   abbrev I : Instance
-  I = instance_from b J
+  I = instance_in j
 
   -- the sizes of task i, from the sums along its chains and its working memory
   module _ {i : ℕ} {made read work : ℕ} (outputs : made ≡ sum_where (file_count I) (makes I i) (size_at I))
@@ -65,10 +65,10 @@ module _ (b : Shape) (J : Job) (P : Schedule) where
     | no d ↦ rw (get_or-set_other xs i j x no_need d) (before j (omega arith))
   ]
 
-  pub fill-all : {n : ℕ} (xs : Needs) → n ≡ b.tasks → RightBelow I P n xs.tasks → Right I P xs
+  pub fill-all : {n : ℕ} (xs : Needs) → n ≡ (length j.tasks.now) → RightBelow I P n xs.tasks → Right I P xs
   fill-all xs e x = record {
-    sized = λ j l. (x j (omega (arith, task-count b J))).0;
-    admitted = λ j l. (x j (omega (arith, task-count b J))).1;
+    sized = λ i l. (x i (omega (arith, tasks-in j))).0;
+    admitted = λ i l. (x i (omega (arith, tasks-in j))).1;
   }
 
   -- ---- after task i was placed
@@ -83,7 +83,7 @@ module _ (b : Shape) (J : Job) (P : Schedule) where
     ]
 
     -- it is the reader of file k of task i
-    pub renew-turn : {i k n : ℕ} → NextOf b.files (makes I i) (suc k) n → r ≡ (file_at I k).reader → RightFrom I P i k xs → RightFrom I P i n ys
+    pub renew-turn : {i k n : ℕ} → NextOf (length j.files.now) (makes I i) (suc k) n → r ≡ (file_at I k).reader → RightFrom I P i k xs → RightFrom I P i n ys
     renew-turn {i} {k} {n} next e before = record {
       sized = λ j l. sized-still (before.sized j l);
       admitted = λ j l none. elim (ℕ_discrete j r) [
@@ -102,7 +102,7 @@ module _ (b : Shape) (J : Job) (P : Schedule) where
 
   -- the task placed is no longer ready
   module _ {i : ℕ} (xs : Needs) (x : Need) (h : i < length xs.tasks) (sizes : (x.room ≡ (need_at xs i).room) × (x.kept ≡ (need_at xs i).kept)) (a : Admitted I P i x) where
-    pub renew-first : {n : ℕ} → NextOf b.files (makes I i) 0 n → RightBut I P i xs → RightFrom I P i n (set xs.tasks i x)
+    pub renew-first : {n : ℕ} → NextOf (length j.files.now) (makes I i) 0 n → RightBut I P i xs → RightFrom I P i n (set xs.tasks i x)
     renew-first {n} next r = record {
       sized = λ j l. elim (ℕ_discrete j i) [
         | yes d ↦ let s = rw d at (r.sized j l) in
@@ -120,10 +120,10 @@ module _ (b : Shape) (J : Job) (P : Schedule) where
       ];
     }
 
-  pub renew-all : {i n : ℕ} (xs : Needs) → b.files ≤ n → RightFrom I P i n xs.tasks → Right I P xs
+  pub renew-all : {i n : ℕ} (xs : Needs) → (length j.files.now) ≤ n → RightFrom I P i n xs.tasks → Right I P xs
   renew-all {i} {n} xs e x =
-      let none : (j : ℕ) → ReadsNone I i n j = λ j k a l. absurd (omega (arith, file-count b J)) in
-      record { sized = x.sized; admitted = λ j l. x.admitted j l (none j) }
+      let none : (t : ℕ) → ReadsNone I i n t = λ t k a l. absurd (omega (arith, files-in j)) in
+      record { sized = x.sized; admitted = λ t l. x.admitted t l (none t) }
 
 -- a task that is placed is not ready
 pub placed-unready : (I : Instance) (P : Schedule) (i : ℕ) {x : Need} → x.ready ≡ false → is_placed (run_at P i) ≡ true → Admitted I P i x

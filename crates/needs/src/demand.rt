@@ -1,10 +1,10 @@
 // What a task needs on a colour: room for its crossing files, and the arrival of the files that it reads.
-ghost use Rattle.std.specs.Prelude.{true, ◌≡◌, ◌+◌, ◌<◌};
+ghost use Rattle.std.specs.Prelude.{true, ◌≡◌, ◌+◌, ◌<◌, length};
 ghost use Rattle.rules.specs.Limits.{max_files};
 ghost use Rattle.rules.specs.Scheduling.{reads};
 ghost use Rattle.model.specs.Colours.{as_colour};
 ghost use Rattle.model.specs.Jobs.{instance_in, schedule_in};
-ghost use Rattle.model.specs.Layout.{schedule_of, ScheduleInBounds};
+ghost use Rattle.model.specs.Jobs.{schedule_of, ScheduleInBounds};
 ghost use Rattle.needs.specs.Demands.{DemandBelow, DemandOf, DemandBounds};
 
 use links::{End, Links};
@@ -36,7 +36,7 @@ impl Demand {
 
 // The demand of the files below k, with file k, which the task reads, added to it.
 fn with_file(demand: Demand, plan: &Timetable, k: usize, task: usize, colour: Colour) -> Demand
-    requires k_lt_files { k < plan.now.job.shape.files }
+    requires k_lt_files { k < length plan.now.job.files.now }
     requires read { reads (instance_in plan.now.job) task k ≡ true }
     requires demand_below { DemandBelow (instance_in plan.now.job) (schedule_in plan.now) task (as_colour colour) k demand }
     requires demand_bounds { DemandBounds k demand }
@@ -57,9 +57,9 @@ fn with_file(demand: Demand, plan: &Timetable, k: usize, task: usize, colour: Co
 
 // The demand of the task on the colour, along the chain of the files that it reads.
 pub fn demand_of(links: &Links, schedule: &layout::Schedule, task: usize, colour: Colour) -> Demand
-    requires schedule_in_bounds { ScheduleInBounds links.now.job.shape schedule.now }
-    requires task_lt_tasks { task < links.now.job.shape.tasks }
-    ensures demand_of { DemandOf (instance_in links.now.job) (schedule_of links.now.job.shape schedule.now) task (as_colour colour) result }
+    requires schedule_in_bounds { ScheduleInBounds links.now.job schedule.now }
+    requires task_lt_tasks { task < length links.now.job.tasks.now }
+    ensures demand_of { DemandOf (instance_in links.now.job) (schedule_of links.now.job schedule.now) task (as_colour colour) result }
     ensures demand_bounds { DemandBounds max_files result }
 {
     let plan = Timetable {

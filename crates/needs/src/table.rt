@@ -4,7 +4,8 @@ ghost use Rattle.rules.specs.Count.{sum_where};
 ghost use Rattle.rules.specs.Limits.{max_tasks};
 ghost use Rattle.rules.specs.Model.{file_count, size_at};
 ghost use Rattle.model.specs.Jobs.{instance_in};
-ghost use Rattle.model.specs.Layout.{schedule_of, ScheduleInBounds, most_files, most_held};
+ghost use Rattle.model.specs.Layout.{most_files, most_held};
+ghost use Rattle.model.specs.Jobs.{schedule_of, ScheduleInBounds};
 ghost use Rattle.links.specs.Chains.{has_at};
 ghost use Rattle.needs.specs.Needs.{Admitted, NeedBounds, NeedsBounds};
 
@@ -34,7 +35,7 @@ pub struct Needs {
 
 // The sizes of the files that have the task at that end, along their chain.
 fn sizes(links: &Links, end: End, task: usize) -> u64
-    requires { task < links.now.job.shape.tasks }
+    requires { task < length links.now.job.tasks.now }
     ensures value { result ≡ sum_where (file_count (instance_in links.now.job))
         (has_at end (instance_in links.now.job) task) (size_at (instance_in links.now.job)) }
     ensures upper_bound { result ≤ most_files }
@@ -50,10 +51,10 @@ fn sizes(links: &Links, end: End, task: usize) -> u64
 
 // The task's need, with these sizes: whether it is ready, and if it is, its demand on both colours.
 fn need_of(links: &Links, schedule: &layout::Schedule, task: usize, room: u64, kept: u64) -> Need
-    requires schedule_in_bounds { ScheduleInBounds links.now.job.shape schedule.now }
-    requires task_lt_tasks { task < links.now.job.shape.tasks }
+    requires schedule_in_bounds { ScheduleInBounds links.now.job schedule.now }
+    requires task_lt_tasks { task < length links.now.job.tasks.now }
     requires room_bound { (room ≤ most_held) × (kept ≤ most_held) }
-    ensures admitted { Admitted (instance_in links.now.job) (schedule_of links.now.job.shape schedule.now) task result }
+    ensures admitted { Admitted (instance_in links.now.job) (schedule_of links.now.job schedule.now) task result }
     ensures sizes { (result.room ≡ room) × (result.kept ≡ kept) }
     ensures bounds { NeedBounds result }
 {
@@ -79,7 +80,7 @@ impl Needs {
     ghost use Rattle.rules.specs.Limits.{max_tasks};
     ghost use Rattle.rules.specs.Model.{is_placed, run_at};
     ghost use Rattle.model.specs.Jobs.{instance_in};
-    ghost use Rattle.model.specs.Layout.{schedule_of, ScheduleInBounds};
+    ghost use Rattle.model.specs.Jobs.{schedule_of, ScheduleInBounds};
     ghost use Rattle.needs.specs.Needs.{no_need, Admitted, NeedBounds};
     ghost use Rattle.needs.specs.Tables.{need_at, SameBut, Right, RightBut};
 
@@ -112,9 +113,9 @@ impl Needs {
 
     // Task i's anew, with the sizes that it has.
     fn admit(&mut self, links: &Links, schedule: &layout::Schedule, i: usize)
-        requires schedule_in_bounds { ScheduleInBounds links.now.job.shape schedule.now }
-        requires i_lt_tasks { i < links.now.job.shape.tasks }
-        ensures admitted { Admitted (instance_in links.now.job) (schedule_of links.now.job.shape schedule.now) i (need_at self.new i) }
+        requires schedule_in_bounds { ScheduleInBounds links.now.job schedule.now }
+        requires i_lt_tasks { i < length links.now.job.tasks.now }
+        ensures admitted { Admitted (instance_in links.now.job) (schedule_of links.now.job schedule.now) i (need_at self.new i) }
         ensures sizes { ((need_at self.new i).room ≡ (need_at self.old i).room) × ((need_at self.new i).kept ≡ (need_at self.old i).kept) }
         ensures same_but { SameBut i self.old self.new }
     {
@@ -124,10 +125,10 @@ impl Needs {
 
     // All of them, for the schedule.
     pub fn fill(&mut self, links: &Links, schedule: &layout::Schedule)
-        requires { ScheduleInBounds links.now.job.shape schedule.now }
-        ensures { Right (instance_in links.now.job) (schedule_of links.now.job.shape schedule.now) self.new }
+        requires { ScheduleInBounds links.now.job schedule.now }
+        ensures { Right (instance_in links.now.job) (schedule_of links.now.job schedule.now) self.new }
     {
-        for i in 0..links.job.shape.tasks {
+        for i in 0..links.job.tasks.len() {
             let work = links.job.work(i);
             let room = sizes(links, End::Maker, i) + work;
             let kept = sizes(links, End::Reader, i) + work;
@@ -137,10 +138,10 @@ impl Needs {
 
     // After task i was placed: it is no longer ready, and the readers of what it makes may be.
     pub fn renew(&mut self, links: &Links, schedule: &layout::Schedule, i: usize)
-        requires schedule_in_bounds { ScheduleInBounds links.now.job.shape schedule.now }
-        requires right_but { RightBut (instance_in links.now.job) (schedule_of links.now.job.shape schedule.now) i self.old }
-        requires i_lt_tasks { (i < links.now.job.shape.tasks) × (is_placed (run_at (schedule_of links.now.job.shape schedule.now) i) ≡ true) }
-        ensures { Right (instance_in links.now.job) (schedule_of links.now.job.shape schedule.now) self.new }
+        requires schedule_in_bounds { ScheduleInBounds links.now.job schedule.now }
+        requires right_but { RightBut (instance_in links.now.job) (schedule_of links.now.job schedule.now) i self.old }
+        requires i_lt_tasks { (i < length links.now.job.tasks.now) × (is_placed (run_at (schedule_of links.now.job schedule.now) i) ≡ true) }
+        ensures { Right (instance_in links.now.job) (schedule_of links.now.job schedule.now) self.new }
     {
         self.tasks[i].ready = false;
         let mut at = links.first(End::Maker, i);

@@ -1,4 +1,5 @@
 -- The walk has come to a file of the chain, or to its end, and the sum is that of the files below it.
+use lib.ListN.{length}
 use Prim.Native.Nat.{◌≤◌, ◌*◌, ◌-◌}
 use mathlib.Core.Path.{◌≡◌}
 use Rattle.rules.specs.Count.{sum_where}
@@ -11,7 +12,7 @@ use Rattle.needs.proofs.table.sizes.Given as goal
 
 abbrev pub invariant-loop-at : goal.invariant-loop-at
 invariant-loop-at l =
-    let n = l.links.job.shape.files in
+    let n = (length l.links.job.files.now) in
     let has = has_at l.end (instance_in l.links.job) l.task in record {
       at : At n has l.at;
       within : index_or n l.at ≤ n;
@@ -20,4 +21,4 @@ invariant-loop-at l =
     }
 
 abbrev pub decreases-loop-at : goal.decreases-loop-at
-decreases-loop-at l = l.links.job.shape.files - index_or l.links.job.shape.files l.at
+decreases-loop-at l = (length l.links.job.files.now) - index_or (length l.links.job.files.now) l.at
