@@ -15,9 +15,9 @@ use Rattle.rules.specs.Scheduling.{makes, weight_within, weight}
 use Rattle.rules.specs.Promises.{WellFormed}
 use Rattle.rules.proofs.CountLaws.{where-under, get_or-same}
 use Rattle.rules.proofs.WeightLaws.{weight_law}
-use Rattle.model.specs.declared.layout.Shape.{Shape}
-use Rattle.model.specs.Layout.{Job, instance_from}
-use Rattle.model.proofs.LayoutLaws.{file-count, task-count}
+use Rattle.model.specs.declared.job.Job.{Job}
+use Rattle.model.specs.Jobs.{instance_in}
+use Rattle.model.proofs.JobLaws.{files-in, tasks-in}
 use Rattle.links.specs.Chains.{NextOf}
 use Rattle.links.proofs.ChainLaws.{max-first, max-behind}
 use Rattle.ranking.specs.Weights.{most_step, most_weight, WeightsFrom}
@@ -45,23 +45,23 @@ weight-bound I W i l = omega (arith, within-bound I W (task_count I) i l, W.task
 abbrev pub path_at : Instance → ℕ → ℕ
 path_at I k = move_time_at I k + weight I (file_at I k).reader
 
-module _ (b : Shape) (J : Job) (W : WellFormed (instance_from b J)) where
+module _ (j : Job) (W : WellFormed (instance_in j)) where
   abbrev I : Instance
-  I = instance_from b J
+  I = instance_in j
 
   module _ (i : ℕ) where
     -- m is the greatest path of the files of task i below k
     abbrev pub Walked : ℕ → ℕ → Type 0
     Walked k m = m ≡ max_where k (makes I i) (path_at I)
 
-    pub walk_start : {r : ℕ} → NextOf b.files (makes I i) 0 r → Walked r 0
+    pub walk_start : {r : ℕ} → NextOf (length j.files.now) (makes I i) 0 r → Walked r 0
     walk_start begin = sym (max-first begin (makes I i) (λ j e. e) (path_at I))
 
     -- file k, which it makes
-    module _ {k : ℕ} (m : ℕ) (at : Walked k m) (h : k < b.files) (made : makes I i k ≡ true) {ws : List ℕ} (f : WeightsFrom I ws (i + 1)) {d t : ℕ}
+    module _ {k : ℕ} (m : ℕ) (at : Walked k m) (h : k < (length j.files.now)) (made : makes I i k ≡ true) {ws : List ℕ} (f : WeightsFrom I ws (i + 1)) {d t : ℕ}
         (p : d ≡ (file_at I k).reader) (q : t ≡ move_time_at I k) where
       is-file : k < file_count I
-      is-file = omega (arith, file-count b J)
+      is-file = omega (arith, files-in j)
 
       path-known : path_at I k ≡ t + get_or ws d 0
       path-known = omega (
@@ -71,34 +71,34 @@ module _ (b : Shape) (J : Job) (W : WellFormed (instance_from b J)) where
         f.known d (omega (arith, p, W.ordered k is-file, eqb-true (file_at I k).maker i made)) (omega (arith, p, W.exists k is-file)),
       )
 
-      pub walk_turn : {r n : ℕ} → NextOf b.files (makes I i) (suc k) n → r ≡ max m (t + get_or ws d 0) → Walked n r
+      pub walk_turn : {r n : ℕ} → NextOf (length j.files.now) (makes I i) (suc k) n → r ≡ max m (t + get_or ws d 0) → Walked n r
       walk_turn {r} {n} behind e =
           let passed : max_where n (makes I i) (path_at I) ≡ max (max_where k (makes I i) (path_at I)) (path_at I k) =
           rw made at (max-behind behind (makes I i) (λ j e. e) (path_at I)) in
           omega (arith, passed, path-known, at, e)
 
-    pub walk_end : {k m : ℕ} → Walked k m → k ≡ b.files → m ≡ max_where (file_count I) (makes I i) (path_at I)
-    walk_end at h = at ∙ ap (λ n. max_where n (makes I i) (path_at I)) (h ∙ sym (file-count b J))
+    pub walk_end : {k m : ℕ} → Walked k m → k ≡ (length j.files.now) → m ≡ max_where (file_count I) (makes I i) (path_at I)
+    walk_end at h = at ∙ ap (λ n. max_where n (makes I i) (path_at I)) (h ∙ sym (files-in j))
 
   -- ---- the array of weights
 
-  pub weights-none : WeightsFrom I (replicate max_tasks 0) b.tasks
+  pub weights-none : WeightsFrom I (replicate max_tasks 0) (length j.tasks.now)
   weights-none = record {
-    known = λ j a l. absurd (omega (arith, task-count b J));
-    bounded = λ j. omega (arith, get_or-same {A = ℕ} max_tasks j 0);
+    known = λ i a l. absurd (omega (arith, tasks-in j));
+    bounded = λ i. omega (arith, get_or-same {A = ℕ} max_tasks i 0);
   }
 
   -- the next task down
   pub weights-next : {ws : List ℕ} {i : ℕ} → 0 < i → WeightsFrom I ws i → WeightsFrom I ws (i - 1 + 1)
   weights-next {ws} {i} some f = let e : i - 1 + 1 ≡ i = omega arith in rw e f
 
-  pub weights-all : {ws : List ℕ} {n : ℕ} → n ≡ 0 → WeightsFrom I ws n → (i : ℕ) → i < b.tasks → get_or ws i 0 ≡ weight I i
-  weights-all e f i l = f.known i (omega arith) (omega (arith, task-count b J))
+  pub weights-all : {ws : List ℕ} {n : ℕ} → n ≡ 0 → WeightsFrom I ws n → (i : ℕ) → i < (length j.tasks.now) → get_or ws i 0 ≡ weight I i
+  weights-all e f i l = f.known i (omega arith) (omega (arith, tasks-in j))
 
   -- one task's weight
-  module _ (i : ℕ) (h : i < b.tasks) {x y z : ℕ} (p : x ≡ time_on blue (task_at I i)) (q : y ≡ time_on red (task_at I i)) (e : z ≡ max_where (file_count I) (makes I i) (path_at I)) where
+  module _ (i : ℕ) (h : i < (length j.tasks.now)) {x y z : ℕ} (p : x ≡ time_on blue (task_at I i)) (q : y ≡ time_on red (task_at I i)) (e : z ≡ max_where (file_count I) (makes I i) (path_at I)) where
     inside : i < task_count I
-    inside = omega (arith, task-count b J)
+    inside = omega (arith, tasks-in j)
 
     sum-weight : x + y + z ≡ weight I i
     sum-weight = omega (arith, weight_law I W i inside)

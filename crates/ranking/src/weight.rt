@@ -14,7 +14,7 @@ use rules::Board;
 fn heaviest_reader(links: &Links, weights: &[u64; Board::MAX_TASKS], i: usize) -> u64
     requires well_formed { WellFormed (instance_in links.now.job) }
     requires weights_from { WeightsFrom (instance_in links.now.job) weights.now (i + 1) }
-    requires i_lt_tasks { i < links.now.job.shape.tasks }
+    requires i_lt_tasks { i < length links.now.job.tasks.now }
     ensures { result ≡ heaviest_reader (instance_in links.now.job) i }
 {
     let mut most: u64 = 0;
@@ -30,11 +30,11 @@ fn heaviest_reader(links: &Links, weights: &[u64; Board::MAX_TASKS], i: usize) -
 // The weight of each task, from the last task down: a file's reader comes behind its maker.
 pub fn weights(links: &Links) -> [u64; Board::MAX_TASKS]
     requires { WellFormed (instance_in links.now.job) }
-    ensures value { (i : ℕ) → i < links.now.job.shape.tasks → get_or result i 0 ≡ weight_of (instance_in links.now.job) i }
+    ensures value { (i : ℕ) → i < length links.now.job.tasks.now → get_or result i 0 ≡ weight_of (instance_in links.now.job) i }
     ensures len { length result ≡ max_tasks }
 {
     let mut all = [0; Board::MAX_TASKS];
-    for i in (0..links.job.shape.tasks).rev() {
+    for i in (0..links.job.tasks.len()).rev() {
         let time = links.job.run_time(i, Colour::Blue) + links.job.run_time(i, Colour::Red);
         let behind = heaviest_reader(links, &all, i);
         all[i] = time + behind;

@@ -1,4 +1,5 @@
 -- Start 1 over the array of last finishes, starts 3 and 4, and all of them together.
+use Rattle.model.specs.Layout.{instance_of}
 use Prim.Native.Nat.{ℕ, suc, ◌+◌, ◌<◌, ◌≤◌, min, max, pred}
 use mathlib.Core.List.{List}
 use mathlib.Core.Option.{none, some}
@@ -12,15 +13,16 @@ use Rattle.rules.specs.Model as Model
 use Rattle.rules.specs.Scheduling.{Partial, processor_start, crossing_size, output_size, free_from, latest, delayed, memory_start, earliest_start}
 use Rattle.rules.specs.Scheduling as Rules
 use Rattle.rules.proofs.CountLaws.{min-cong}
-use Rattle.model.specs.declared.layout.Shape.{Shape}
 use Rattle.model.specs.declared.colour.Colour.{Colour}
 use Rattle.model.specs.declared.colour.Colour.TheVariants.{Blue, Red}
 use Rattle.model.specs.Colours.{as_colour, by_colour, own}
 use Rattle.rules.specs.Limits.{max_files}
 use Rattle.needs.specs.declared.table.Need.{Need}
 use Rattle.needs.specs.Needs.{NeedBounds}
-use Rattle.model.specs.Layout.{Job, Entries, instance_from, partial_from, count_in, Processors}
-use Rattle.model.proofs.LayoutLaws.{last-finish-at}
+use Rattle.model.specs.declared.job.Job.{Job}
+use Rattle.model.specs.Layout.{Entries, count_in, Processors}
+use Rattle.model.specs.Jobs.{instance_in, partial_by}
+use Rattle.model.proofs.JobLaws.{last-finish-at}
 use Rattle.starts.specs.declared.memory.Memory.{Memory}
 use Rattle.starts.specs.declared.memory.Memory.TheVariants.{Aware, Plain}
 use Rattle.std.specs.Prelude.{Option, None, Some, IfSome}
@@ -79,26 +81,26 @@ module _ (last : List ℕ) (first : ℕ) where
       let g : suc (pred i) ≡ i = omega arith in
       rw e (ap (λ j. min (min_up_to (pred i) at) (at j)) g)
 
-module _ (b : Shape) (J : Job) (L : Entries) (last : List ℕ) where
+module _ (j : Job) (L : Entries) (last : List ℕ) where
   abbrev I : Instance
-  I = instance_from b J
+  I = instance_in j
 
   abbrev Q : Partial
-  Q = partial_from b L last
+  Q = partial_by j L last
 
-  slot : (p q : ℕ) → q ≡ p → q < b.board.blue.processors + b.board.red.processors → get_or Q.last_finish q 0 ≡ get_or last p 0
-  slot p q e l = last-finish-at b L last q l ∙ ap (λ p. get_or last p 0) e
+  slot : (p q : ℕ) → q ≡ p → q < j.board.blue.processors + j.board.red.processors → get_or Q.last_finish q 0 ≡ get_or last p 0
+  slot p q e l = last-finish-at j L last q l ∙ ap (λ p. get_or last p 0) e
 
-  module _ (f : Processors b) where
+  module _ (f : Processors j.board) where
     least-finish : (c : Colour) → processor_start I Q (as_colour c)
-        ≡ min_up_to (pred (count_in b c)) (at last (by_colour c 0 b.board.blue.processors))
-    unfolding processor_start instance_from
-    least-finish Blue = min-cong (pred b.board.blue.processors) _ _ (λ p l. slot (0 + p) p (omega arith) (omega (arith, f.blue.least)))
+        ≡ min_up_to (pred (count_in j.board c)) (at last (by_colour c 0 j.board.blue.processors))
+    unfolding processor_start instance_of
+    least-finish Blue = min-cong (pred j.board.blue.processors) _ _ (λ p l. slot (0 + p) p (omega arith) (omega (arith, f.blue.least)))
     least-finish Red =
-        let m = b.board.blue.processors in
-        min-cong (pred b.board.red.processors) _ _ (λ p l. slot (m + p) (m + p) refl (omega (arith, f.red.least)))
+        let m = j.board.blue.processors in
+        min-cong (pred j.board.red.processors) _ _ (λ p l. slot (m + p) (m + p) refl (omega (arith, f.red.least)))
 
-    pub least-total : (c : Colour) {first n i : ℕ} → first ≡ by_colour c 0 b.board.blue.processors → n ≡ count_in b c
+    pub least-total : (c : Colour) {first n i : ℕ} → first ≡ by_colour c 0 j.board.blue.processors → n ≡ count_in j.board c
         → i ≡ n → min_up_to (pred i) (at last first) ≡ processor_start I Q (as_colour c)
     least-total c x y z = rw (x, z, y, least-finish c)
 

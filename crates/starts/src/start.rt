@@ -4,7 +4,8 @@ ghost use Rattle.rules.specs.Model.{Instance};
 ghost use Rattle.rules.specs.Scheduling.{Partial, processor_start, earliest_start};
 ghost use Rattle.model.specs.Colours.{as_colour};
 ghost use Rattle.model.specs.Jobs.{instance_in};
-ghost use Rattle.model.specs.Layout.{Entries, partial_from, last_tick, last_start};
+ghost use Rattle.model.specs.Layout.{Entries, last_tick, last_start};
+ghost use Rattle.model.specs.Jobs.{partial_by};
 ghost use Rattle.staircase.specs.Steps.{as_option};
 ghost use Rattle.needs.specs.Needs.{NeedBounds};
 ghost use Rattle.starts.specs.Memories.{as_memory};
@@ -20,12 +21,12 @@ use staircase::Staircase;
 // Start 1: the least last finish of the colour's processors.
 pub fn processor_start(job: &Job, finishes: &Finishes, colour: Colour) -> u64
     ensures value { (L : Entries) → result ≡
-        processor_start (instance_in job.now) (partial_from job.now.shape L finishes.now) (as_colour colour) }
+        processor_start (instance_in job.now) (partial_by job.now L finishes.now) (as_colour colour) }
     ensures upper_bound { result ≤ last_tick }
 {
-    let blue = job.shape.board.blue.processors;
+    let blue = job.board.blue.processors;
     let first = by_colour(colour, 0, blue) as usize;
-    let count = by_colour(colour, blue, job.shape.board.red.processors) as usize;
+    let count = by_colour(colour, blue, job.board.red.processors) as usize;
     let mut least = finishes.of(first);
     for p in 1..count {
         least = least.min(finishes.of(first + p));

@@ -1,4 +1,5 @@
 -- The walk has come to a file that i makes, or to its end, and the greatest path of the files passed is known.
+use lib.ListN.{length}
 use Prim.Native.Nat.{◌≤◌, ◌-◌}
 use mathlib.Core.Path.{◌≡◌}
 use Rattle.rules.specs.Count.{max_where}
@@ -11,7 +12,7 @@ use Rattle.ranking.proofs.weight.heaviest_reader.Given as goal
 
 abbrev pub invariant-loop-at : goal.invariant-loop-at
 invariant-loop-at l =
-    let n = l.links.job.shape.files in
+    let n = (length l.links.job.files.now) in
     let I = instance_in l.links.job in record {
       at : At n (makes I l.i) l.at;
       within : index_or n l.at ≤ n;
@@ -19,4 +20,4 @@ invariant-loop-at l =
     }
 
 abbrev pub decreases-loop-at : goal.decreases-loop-at
-decreases-loop-at l = l.links.job.shape.files - index_or l.links.job.shape.files l.at
+decreases-loop-at l = (length l.links.job.files.now) - index_or (length l.links.job.files.now) l.at

@@ -1,45 +1,43 @@
+use lib.ListN.{length}
 use Prim.Native.Nat.{◌-◌}
 use native.Mathlib.Omega.{arith}
 use borrow.Author.Rules.{rules}
 use lib.ListN.{length-set}
-use Rattle.model.specs.Layout.{job_of}
 use Rattle.ranking.proofs.WeightLaws.{weights-none, weights-next, weights-all, weight-fits, weights-turn}
 use Rattle.ranking.proofs.weight.weights.Goals as goal
 
 pub loop-i-init : goal.loop-i-init
 loop-i-init c =
     let j = c.args.links.now.job in
-    (search rules, weights-none j.shape (job_of j.numbers.now) c.requires)
+    (search rules, weights-none j c.requires)
 
 pub heaviest_reader-behind-requires : goal.heaviest_reader-behind-requires
 heaviest_reader-behind-requires c =
     let j = c.args.links.now.job in record {
       well_formed = c.requires;
-      weights_from = weights-next j.shape (job_of j.numbers.now) c.requires c.loop-i-test.true c.loop-i.invariant.1;
+      weights_from = weights-next j c.requires c.loop-i-test.true c.loop-i.invariant.1;
       i_lt_tasks = omega arith;
     }
 
 pub overflow_add-all : goal.overflow_add-all
 overflow_add-all c =
     let j = c.args.links.now.job in
-    let J = job_of j.numbers.now in
     omega (
       arith,
-      weight-fits j.shape J c.requires (c.loop-i.i - 1) (omega arith) c.run_time.ensures.value c.run_time-in-loop-i.ensures.value c.heaviest_reader-behind.ensures,
+      weight-fits j c.requires (c.loop-i.i - 1) (omega arith) c.run_time.ensures.value c.run_time-in-loop-i.ensures.value c.heaviest_reader-behind.ensures,
     )
 
 pub loop-i-preserved : goal.loop-i-preserved
 loop-i-preserved c =
-    let j = c.args.links.now.job in
-    let J = job_of j.numbers.now in (
+    let j = c.args.links.now.job in (
       simp length-set c.loop-i.invariant.0,
-      weights-turn j.shape J c.requires (c.loop-i.i - 1) (omega arith) c.run_time.ensures.value c.run_time-in-loop-i.ensures.value
-          c.heaviest_reader-behind.ensures c.loop-i.invariant.0 (weights-next j.shape J c.requires c.loop-i-test.true c.loop-i.invariant.1),
+      weights-turn j c.requires (c.loop-i.i - 1) (omega arith) c.run_time.ensures.value c.run_time-in-loop-i.ensures.value
+          c.heaviest_reader-behind.ensures c.loop-i.invariant.0 (weights-next j c.requires c.loop-i-test.true c.loop-i.invariant.1),
     )
 
 pub returns : goal.returns
 returns c =
     let j = c.args.links.now.job in record {
-      value = weights-all j.shape (job_of j.numbers.now) c.requires (omega arith) c.loop-i.invariant.1;
+      value = weights-all j c.requires (omega arith) c.loop-i.invariant.1;
       len = c.loop-i.invariant.0;
     }

@@ -1,6 +1,5 @@
 use mathlib.Core.Path.{◌∙◌}
 use native.Mathlib.Omega.{arith}
-use Rattle.model.specs.Layout.{job_of}
 use Rattle.starts.proofs.EarliestStartLaws.{least_first, least-turn, least-total}
 use Rattle.starts.proofs.start.processor_start.Goals as goal
 
@@ -14,5 +13,5 @@ loop-p-preserved c =
 pub returns-clause-value : goal.returns-clause-value
 returns-clause-value c =
     let j = c.args.job.now in
-    λ L. c.loop-p.invariant.1 ∙ least-total j.shape (job_of j.numbers.now) L c.args.finishes.now j.in_bounds.processors c.args.colour {i = c.loop-p.p}
+    λ L. c.loop-p.invariant.1 ∙ least-total j L c.args.finishes.now j.in_bounds.processors c.args.colour {i = c.loop-p.p}
     c.by_colour-first.ensures.value c.by_colour-count.ensures.value (omega arith)
