@@ -13,7 +13,7 @@ use lib.Seq.{take-suc, take_all, length-take-le}
 use Rattle.io.specs.Digits.{hex_digit_ascii}
 use Rattle.rules.proofs.Tests.{split}
 use Rattle.text.specs.Wrote.{Wrote}
-use Rattle.text.proofs.PartLaws.{tail-part}
+use Rattle.std.proofs.lemmas.List.{take_rest}
 use Rattle.text.proofs.WroteLaws.{wrote_none, wrote-length, wrote-part}
 use Rattle.console.specs.Escaped.{printable, escaped_byte, escaped}
 
@@ -110,7 +110,7 @@ module _ {text old out : List ℕ} {at i : ℕ} (r : Escaping text old out at i)
     next_fits = omega (arith, length-append (escaped (take i text)) next, byte-length (get_or text i 0), short, r.room)
 
     pub byte_fits : 4 ≤ length (take (length out - at) (drop at out))
-    byte_fits = rw (tail-part out at, length-drop) (omega (arith, short, r.wrote.count, r.room, escaping-length))
+    byte_fits = rw (take_rest out at, length-drop) (omega (arith, short, r.wrote.count, r.room, escaping-length))
 
     pub escaping-more : (n : ℕ) (new : List ℕ) → Wrote next n (take (length out - at) (drop at out)) new
         → Escaping text old (take at out ++ (new ++ drop (length out - at) (drop at out))) (at + n) (i + 1)

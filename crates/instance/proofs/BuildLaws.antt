@@ -14,7 +14,7 @@ use Rattle.std.proofs.lemmas.Option.{slice_get-get_or, slice_get_within, get_or_
 use Rattle.rules.specs.Limits.{max_files}
 use Rattle.rules.specs.Model.{Task, Instance, file_count, task_count}
 use Rattle.rules.specs.Text.{wrong, right, undue, or_undue}
-use Rattle.rules.specs.InstanceText.{task_line, file_line, ascends, file_allowed, with_board, with_line}
+use Rattle.rules.specs.InstanceText.{task_line, file_line, ascends, file_allowed, with_line}
 use Rattle.rules.specs.declared.Board.{Board}
 use Rattle.rules.proofs.Tests.{and_no}
 use Rattle.rules.proofs.ReadingLaws.{and-true-4}
@@ -22,9 +22,6 @@ use Rattle.model.specs.Layout.{instance_with, stored_file}
 use Rattle.model.specs.declared.layout.Numbers.{Numbers}
 use Rattle.model.proofs.LayoutLaws as Lists
 use Rattle.model.proofs.WriteLaws.{task-stored, file-stored}
-use Rattle.instance.specs.declared.line.Line.{Line}
-use Rattle.instance.specs.declared.line.Line.TheVariants.{Board as BoardLine, Task as TaskLine, File as FileLine}
-use Rattle.instance.specs.Lines.{as_line}
 
 -- a list whose last element is asked for, by the answer
 pub last-none : {A : Type 0} (xs : List A) → None ≡ slice_get xs (length xs - 1) → length xs ≡ 0
@@ -33,12 +30,6 @@ last-none (x ∷ xs) e = let h : slice_get (x ∷ xs) (length (x ∷ xs) - 1) �
 
 pub last-some : {A : Type 0} (xs : List A) (x d : A) → Some x ≡ slice_get xs (length xs - 1) → (length xs ≡ 0 → ⊥) × (x ≡ get_or xs (length xs - 1) d)
 last-some xs x d e = (λ z. let h = slice_get_within xs (length xs - 1) x (sym e) in omega arith, sym (get_or_from_slice_get xs (length xs - 1) x d (sym e)))
-
--- a line that is no board's
-pub no-board : (l : Line) → ((b : Board) → l ≡ BoardLine b → ⊥) → wrong undue ≡ or_undue (with_board (as_line l))
-no-board (BoardLine b) h = absurd (h b refl)
-no-board (TaskLine i b r w) h = refl
-no-board (FileLine i j f c) h = refl
 
 -- some board
 abbrev pub least_board : Board

@@ -9,13 +9,12 @@ use Rattle.rules.specs.BoardType.{side_from}
 use Rattle.rules.specs.Text.{lf}
 use Rattle.rules.specs.InstanceText.{board_form, task_form, work_form, file_form, board_line, instance_bytes, task_lines, file_lines, instance_text}
 use Rattle.rules.proofs.Tests.{split}
-use Rattle.rules.proofs.InstanceTextLaws.{tasks-none, files-none}
 use Rattle.text.proofs.SizeLaws.{end, word, line-short, pieces-short}
 use Rattle.model.specs.declared.job.Job.{Job}
 use Rattle.model.specs.Layout.{stored_task, stored_file, JobBounds}
 use Rattle.model.specs.Jobs.{instance_in}
 use Rattle.model.proofs.JobLaws.{task-in, file-in}
-use Rattle.instance.proofs.TextLaws.{task_piece, file_piece, tasks-grow, files-grow, without-work, with-work, text-pieces}
+use Rattle.instance.proofs.TextLaws.{task_piece, file_piece, task-pieces, file-pieces, without-work, with-work, text-pieces}
 
 -- a number of 64 bits has at most 20 digits, no form has more signs than the board's, and LF is one byte
 abbrev longest : ℕ
@@ -57,7 +56,7 @@ module _ (j : Job) where
   pub sheet-short : length (instance_text (instance_in j)) < 2 ^ 64
   sheet-short =
       let I = instance_in j in
-      let t = pieces-short longest (task_lines I) (task_piece I) (tasks-grow I) (tasks-none I) (length j.tasks.now) task-short in
-      let f = pieces-short longest (file_lines I) (file_piece I) (files-grow I) (files-none I) (length j.files.now) file-short in
+      let t = pieces-short longest (task-pieces I) (length j.tasks.now) task-short in
+      let f = pieces-short longest (file-pieces I) (length j.files.now) file-short in
       rw (text-pieces j)
       (omega (arith, length-append (board_piece ++ task_lines I (length j.tasks.now)) (file_lines I (length j.files.now)), length-append board_piece (task_lines I (length j.tasks.now)), t, f, board-short, h.tasks, h.files))

@@ -1,6 +1,6 @@
 -- The text of a board sheet as pieces: the board's line, a line for each task and a line for each file.
 use lib.ListN.{length}
-use Prim.Native.Nat.{ℕ, suc, ◌+◌}
+use Prim.Native.Nat.{ℕ, ◌+◌}
 use mathlib.Core.Path.{◌≡◌, ◌∙◌}
 use mathlib.Core.List.{List, [], ◌∷◌, ◌++◌, append_assoc}
 use native.Mathlib.Numerals.{add-one}
@@ -9,7 +9,8 @@ use Rattle.rules.specs.BoardType.{side_from}
 use Rattle.rules.specs.Model.{Instance, task_at, file_at}
 use Rattle.rules.specs.Text.{lf, fill}
 use Rattle.rules.specs.InstanceText.{task_form, work_form, board_line, task_line, file_line, instance_bytes, task_lines, file_lines, instance_text}
-use Rattle.rules.proofs.InstanceTextLaws.{task_said, file_said, tasks-next, files-next, text-parts}
+use Rattle.rules.proofs.InstanceTextLaws.{task_said, file_said, tasks-none, files-none, tasks-next, files-next, text-parts}
+use Rattle.text.proofs.SinkLaws.{Pieces}
 use Rattle.model.specs.declared.job.Job.{Job}
 use Rattle.model.specs.Layout.{instance_of}
 use Rattle.model.specs.Jobs.{instance_in}
@@ -32,11 +33,13 @@ task_piece I i = instance_bytes (task_said i (task_at I i)) ++ lf
 abbrev pub file_piece : Instance → ℕ → List ℕ
 file_piece I k = instance_bytes (file_said (file_at I k)) ++ lf
 
-pub tasks-grow : (I : Instance) (i : ℕ) → task_lines I (suc i) ≡ task_lines I i ++ task_piece I i
-tasks-grow I i = tasks-next I i ∙ append_assoc (task_lines I i) (instance_bytes (task_said i (task_at I i))) lf
+pub task-pieces : (I : Instance) → Pieces (task_lines I) (task_piece I)
+task-pieces I =
+    record { none = tasks-none I; grow = λ i. tasks-next I i ∙ append_assoc (task_lines I i) (instance_bytes (task_said i (task_at I i))) lf }
 
-pub files-grow : (I : Instance) (k : ℕ) → file_lines I (suc k) ≡ file_lines I k ++ file_piece I k
-files-grow I k = files-next I k ∙ append_assoc (file_lines I k) (instance_bytes (file_said (file_at I k))) lf
+pub file-pieces : (I : Instance) → Pieces (file_lines I) (file_piece I)
+file-pieces I =
+    record { none = files-none I; grow = λ k. files-next I k ∙ append_assoc (file_lines I k) (instance_bytes (file_said (file_at I k))) lf }
 
 -- ---- from what the code reads
 module _ (I : Instance) where

@@ -21,10 +21,7 @@ fn begin(sheet: &[u8]) -> Result<Taken<'_, Board>, Fault>
 {
     let next = next_line(sheet)?;
     let value = first(next.value)?;
-    Ok(Taken {
-        value,
-        rest: next.rest,
-    })
+    Ok(next.with(value))
 }
 
 // A line behind the board's.
@@ -33,10 +30,7 @@ fn go_on<'a>(sheet: &'a [u8], numbers: &mut Numbers) -> Result<Taken<'a, ()>, Fa
 {
     let next = next_line(sheet)?;
     let value = add(numbers, next.value)?;
-    Ok(Taken {
-        value,
-        rest: next.rest,
-    })
+    Ok(next.with(value))
 }
 
 // The lines behind the board's; the first of them is line 2. The loop goes down the text that is left: no iterator of the library takes lines

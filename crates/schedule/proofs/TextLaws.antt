@@ -11,7 +11,8 @@ use Rattle.rules.specs.Model.{Instance, Schedule, file_at, run_at, move_at, move
 use Rattle.rules.specs.Text.{lf}
 use Rattle.rules.specs.Validity.{Claim}
 use Rattle.rules.specs.ScheduleText.{run_line, move_line, claim_line, schedule_bytes, run_lines, move_lines, schedule_text}
-use Rattle.rules.proofs.ScheduleTextLaws.{move_bytes, runs-next, moves_more, text-parts}
+use Rattle.rules.proofs.ScheduleTextLaws.{move_bytes, runs_none, moves-none, runs-next, moves_more, text-parts}
+use Rattle.text.proofs.SinkLaws.{Pieces}
 use Rattle.model.specs.declared.job.Job.{Job}
 use Rattle.model.specs.Layout.{Entries}
 use Rattle.model.specs.Jobs.{instance_in, schedule_by}
@@ -25,11 +26,12 @@ run_piece P i = schedule_bytes (run_line (suc i) (run_at P i)) ++ lf
 abbrev pub move_piece : Instance → Schedule → ℕ → List ℕ
 move_piece I P k = move_bytes I k (moved I P k) (move_at P k)
 
-pub runs_grow : (P : Schedule) (i : ℕ) → run_lines P (suc i) ≡ run_lines P i ++ run_piece P i
-runs_grow P i = runs-next P i ∙ append_assoc (run_lines P i) (schedule_bytes (run_line (suc i) (run_at P i))) lf
+pub run-pieces : (P : Schedule) → Pieces (run_lines P) (run_piece P)
+run-pieces P =
+    record { none = runs_none P; grow = λ i. runs-next P i ∙ append_assoc (run_lines P i) (schedule_bytes (run_line (suc i) (run_at P i))) lf }
 
-pub moves_grow : (I : Instance) (P : Schedule) (k : ℕ) → move_lines I P (suc k) ≡ move_lines I P k ++ move_piece I P k
-moves_grow I P k = moves_more I P k
+pub move-pieces : (I : Instance) (P : Schedule) → Pieces (move_lines I P) (move_piece I P)
+move-pieces I P = record { none = moves-none I P; grow = moves_more I P }
 
 -- ---- from what the code reads
 pub run-piece : (j : Job) (L : Entries) {i : ℕ} → i < (length j.tasks.now) → (p s : ℕ) → p ≡ L.processor i → s ≡ L.start i

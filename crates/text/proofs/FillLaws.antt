@@ -10,7 +10,7 @@ use lib.ListN.{length, get_or, drop, drop_of_length-le}
 use lib.Seq.{drop-cons, drop-drop, get_or-drop}
 use Rattle.rules.specs.Text.{decimal, fill}
 use Rattle.rules.proofs.FormLaws.{fill-number, fill-sign}
-use Rattle.text.proofs.SinkLaws.{Lawful}
+use Rattle.text.specs.Laid.{Lawful}
 
 -- ---- the next sign of a form
 module _ (form vs : List ℕ) (i k : ℕ) (h : i < length form) where
@@ -36,12 +36,12 @@ pub record Laying {T : Type 0} (laid : T → List ℕ → T → Type 0) (form vs
   pub behind : k ≤ i
   pub whole : done ++ fill (drop i form) (drop k vs) ≡ fill form vs
 
-module _ {T : Type 0} {room : T → List ℕ → Type 0} {laid : T → List ℕ → T → Type 0} (L : Lawful room laid) (form vs : List ℕ) (s : T)
+module _ {T : Type 0} {room : T → List ℕ → Type 0} {laid : T → List ℕ → T → Type 0} (L : Lawful room laid) {form vs : List ℕ} {s : T}
     (space : room s (fill form vs)) where
   pub laying-start : Laying laid form vs s s 0 0
   laying-start = record { done = []; down = L.none s (L.front s [] (fill form vs) space); behind = omega arith; whole = refl }
 
-  module _ (t : T) (i k : ℕ) (r : Laying laid form vs s t i k) where
+  module _ {t : T} {i k : ℕ} (r : Laying laid form vs s t i k) where
     -- the next piece is w
     module _ (w rest : List ℕ) (e : fill (drop i form) (drop k vs) ≡ w ++ rest) where
       next-whole : (r.done ++ w) ++ rest ≡ fill form vs
@@ -54,15 +54,15 @@ module _ {T : Type 0} {room : T → List ℕ → Type 0} {laid : T → List ℕ 
       next-laid u m = L.more s t u r.done w r.down m
 
     module _ (h : i < length form) where
-      module _ (g : get_or form i 0 ≡ 35) (v : ℕ) (e : v ≡ get_or vs k 0) where
+      module _ (g : get_or form i 0 ≡ 35) {v : ℕ} (e : v ≡ get_or vs k 0) where
         next-number : fill (drop i form) (drop k vs) ≡ decimal v ++ fill (drop (i + 1) form) (drop (k + 1) vs)
         next-number = rw e (fill-at-number form vs i k h g)
 
         pub number-room : room t (decimal v)
         number-room = next-room (decimal v) _ next-number
 
-        pub number-laid : (u : T) → laid t (decimal v) u → Laying laid form vs s u (i + 1) (k + 1)
-        number-laid u m =
+        pub number-laid : {u : T} → laid t (decimal v) u → Laying laid form vs s u (i + 1) (k + 1)
+        number-laid {u} m =
             record {
               done = r.done ++ decimal v;
               down = next-laid (decimal v) _ next-number u m;
@@ -74,8 +74,8 @@ module _ {T : Type 0} {room : T → List ℕ → Type 0} {laid : T → List ℕ 
         pub sign-room : room t (get_or form i 0 ∷ [])
         sign-room = next-room (get_or form i 0 ∷ []) _ (fill-at-sign form vs i k h g)
 
-        pub sign-laid : (u : T) → laid t (get_or form i 0 ∷ []) u → Laying laid form vs s u (i + 1) k
-        sign-laid u m =
+        pub sign-laid : {u : T} → laid t (get_or form i 0 ∷ []) u → Laying laid form vs s u (i + 1) k
+        sign-laid {u} m =
             record {
               done = r.done ++ (get_or form i 0 ∷ []);
               down = next-laid (get_or form i 0 ∷ []) _ (fill-at-sign form vs i k h g) u m;

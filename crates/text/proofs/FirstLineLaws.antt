@@ -15,7 +15,7 @@ use Rattle.rules.specs.Text.{ended, unended, lines_of}
 use Rattle.rules.proofs.Tests.{split, by_order}
 use Rattle.rules.proofs.LineLaws.{lines_end, lines_more}
 use Rattle.text.specs.FirstLine.{first_line}
-use Rattle.text.proofs.PartLaws.{tail-part}
+use Rattle.std.proofs.lemmas.List.{take_rest}
 use Rattle.text.proofs.FrontLaws.{Front, front-within, front-take}
 
 pub no-first : first_line [] ≡ []
@@ -69,7 +69,7 @@ module _ (bs line : List ℕ) (e : line ≡ first_line bs) (h : length line < le
 
   -- the same for the part `&bs[line.len() + 1..]`
   pub line-part : lines_of bs ≡ ended line ∷ lines_of (take (length bs - (length line + 1)) (drop (length line + 1) bs))
-  line-part = rw (tail-part bs (length line + 1)) line-behind
+  line-part = rw (take_rest bs (length line + 1)) line-behind
 
 -- ---- a text with no LF is one line
 whole-more : (b : ℕ) (bs : List ℕ) → length (first_line (b ∷ bs)) ≡ suc (length bs) → (eqb b 10 ≡ false) × (length (first_line bs) ≡ length bs)

@@ -6,7 +6,7 @@ use mathlib.Core.List.{List, [], ◌∷◌, ◌++◌, append_assoc, append-nil}
 use native.Mathlib.Nat.{add_comm}
 use native.Mathlib.Numerals.{add-one}
 use native.Mathlib.Omega.{arith}
-use lib.ListN.{length, get_or, take, drop, length-drop, drop_of_length-le}
+use lib.ListN.{length, get_or, take, drop, length-drop}
 use lib.Seq.{take-suc, take-add, drop-cons, drop-drop}
 use Rattle.std.specs.List.{prefix_len}
 use Rattle.rules.proofs.Tests.{split}
@@ -46,9 +46,6 @@ module _ {p : ℕ → Bool} {f : List ℕ → List ℕ} (t : Front p f) {l : Lis
 
   pub passed-stop : n < length l → p (get_or l n 0) ≡ false → f l ≡ take n l
   passed-stop h e = r.left ∙ rw (drop-cons l n 0 h, t.stop (get_or l n 0) _ e, append-nil)
-
-  pub passed-end : length l ≤ n → f l ≡ take n l
-  passed-end h = r.left ∙ rw (drop_of_length-le l h, t.none, append-nil)
 
 -- and m behind them
 pub passed_on : {f : List ℕ → List ℕ} {l : List ℕ} {n m : ℕ} → Passed f l n → Passed f (drop n l) m → Passed f l (n + m)

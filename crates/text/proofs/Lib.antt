@@ -1,6 +1,5 @@
--- The laws that the proofs of this crate cite, in the order to read them. Other crates cite those of PartLaws, FirstLineLaws, CutLaws,
+-- The laws that the proofs of this crate cite, in the order to read them. Other crates cite those of FirstLineLaws, CutLaws,
 -- DueLaws, SizeLaws and SinkLaws.
-pub mod PartLaws
 -- reading
 pub mod FrontLaws
 pub mod FirstLineLaws

@@ -1,11 +1,9 @@
 -- The lines of a text by number, as the loop of `line_from` passes over them.
 use Prim.Native.Nat.{ℕ, zero, suc, ◌+◌, ◌-◌, ◌≤◌, ◌<◌}
-use mathlib.Core.Path.{◌≡◌, refl, sym, ◌∙◌}
+use mathlib.Core.Path.{◌≡◌, sym, ◌∙◌}
 use mathlib.Core.List.{List, [], ◌∷◌}
 use native.Mathlib.Omega.{arith}
 use lib.ListN.{length, take, drop}
-use borrow.Author.Tests.{eq-eqb, ne_eqb}
-use Rattle.rules.specs.Calls.{line_at}
 use Rattle.text.specs.FirstLine.{first_line, line_from}
 use Rattle.text.proofs.FirstLineLaws.{no_line, line-within, line-part, line-unended, line-whole, line-ended}
 use Rattle.rules.proofs.Tests.{by_order}
@@ -13,9 +11,6 @@ use Rattle.rules.proofs.Tests.{by_order}
 -- the line looked for is line `left` of what is left
 pub record Skipping (text : List ℕ) (n : ℕ) (rest : List ℕ) (left : ℕ) : Type 0 where
   pub same : line_from text n ≡ line_from rest left
-
-pub skipping-start : (text : List ℕ) (n left : ℕ) → left ≡ n → Skipping text n text left
-skipping-start text n left e = rw e (record { same = refl })
 
 -- the lines of a text that is its first line
 only-line : (rest : List ℕ) (n : ℕ) → length rest ≤ length (first_line rest) → line_from rest (suc n) ≡ []
@@ -47,11 +42,3 @@ module _ {text : List ℕ} {n : ℕ} {rest : List ℕ} where
     skipping-more (suc m) s h g next f =
         let q : next ≡ m = omega arith in
         record { same = s.same ∙ rw (q, line-part rest line e g) }
-
--- a line's number counted from 1
-pub line-zero : (text : List ℕ) (k : ℕ) → k ≡ 0 → [] ≡ line_at text k
-line-zero text k e = rw (eq-eqb k 0 e)
-
-pub line-from : (text : List ℕ) (k : ℕ) → (k ≡ 0 → ⊥) → line_from text (k - 1) ≡ line_at text k
-line-from text zero h = absurd (h refl)
-line-from text (suc k) h = let q : suc k - 1 ≡ k = omega arith in rw (ne_eqb (suc k) 0 h, q)

@@ -17,7 +17,7 @@ use Rattle.text.specs.FirstLine.{first_line, Passed}
 use Rattle.text.specs.Numerals.{Spelled}
 use Rattle.std.specs.Cmp.Lexicographic.{pointwise}
 use Rattle.text.specs.Cut.{lineless, plain, Parted, scan_ended, first_four, Cut}
-use Rattle.text.proofs.PartLaws.{tail-part}
+use Rattle.std.proofs.lemmas.List.{take_rest}
 use Rattle.text.proofs.FrontLaws.{front-within, passed_none, passed_on, passed-more, passed-stop}
 use Rattle.text.proofs.FirstLineLaws.{first_more, line-front}
 use Rattle.text.proofs.ReadNumeralLaws.{digits-front}
@@ -26,9 +26,6 @@ use Rattle.text.proofs.CutLaws.{word-met, word-missed}
 
 -- ---- the byte at a place
 module _ (s : ℕ) (text : List ℕ) (at : ℕ) where
-  pub stands-none : length text ≤ at → starts_with s (drop at text) ≡ false
-  stands-none h = rw (drop_of_length-le text h)
-
   pub stands-some : at < length text → starts_with s (drop at text) ≡ eqb s (get_or text at 0)
   stands-some h = rw (drop-cons text at 0 h)
 
@@ -125,9 +122,6 @@ module _ {form text : List ℕ} {start : ℕ} {found : List ℕ} {at count i : �
     pub scanning-long : starts_with 10 (drop at text) ≡ false → scan_ended form (drop start text) ≡ none
     scanning-long e = ends-none (rw form-done (ended-long (drop at text) e))
 
-    pub scanning-within : starts_with 10 (drop at text) ≡ true → at < length text
-    scanning-within e = stands-within 10 text at e
-
     pub scanning-end : starts_with 10 (drop at text) ≡ true
         → Cut (scan_ended form (drop start text)) text (take at text) found (take (length text - (at + 1)) (drop (at + 1) text))
     scanning-end e =
@@ -136,7 +130,7 @@ module _ {form text : List ℕ} {start : ℕ} {found : List ℕ} {at count i : �
         let (vs, s, f) = found-some (scan_ended form (drop start text)) found (r.left ∙ rw (form-done, ended-end (drop at text) e)) in
         record {
           first = sym q;
-          behind = rw (length-take-le at text r.passed.within) (tail-part text (at + 1));
+          behind = rw (length-take-le at text r.passed.within) (take_rest text (at + 1));
           values = vs;
           scanned = s;
           stored = f;
@@ -152,11 +146,11 @@ module _ {form text : List ℕ} {start : ℕ} {found : List ℕ} {at count i : �
     module _ (s : get_or form i 0 ≡ 35) where
       pub scanning-no-number : numeral (digits_of (take (length text - at) (drop at text))) ≡ false → scan_ended form (drop start text) ≡ none
       scanning-no-number e =
-          ends-none (rw next-sign (ended-no-number (get_or form i 0) (drop (suc i) form) (drop at text) (eq-eqb _ _ s) (rw (tail-part text at) at e)))
+          ends-none (rw next-sign (ended-no-number (get_or form i 0) (drop (suc i) form) (drop at text) (eq-eqb _ _ s) (rw (take_rest text at) at e)))
 
       module _ {v n : ℕ} (o : Spelled (take (length text - at) (drop at text)) v n) where
         spelled-on : Spelled (drop at text) v n
-        spelled-on = rw (tail-part text at) at o
+        spelled-on = rw (take_rest text at) at o
 
         pub scanning-number : Scanning form text start (set found count v) (at + n) (count + 1) (i + 1)
         scanning-number =

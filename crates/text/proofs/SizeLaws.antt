@@ -10,6 +10,7 @@ use Rattle.rules.specs.Text.{lf, decimal, is_number, fill}
 use Rattle.rules.proofs.Tests.{split}
 use Rattle.rules.proofs.NumeralLaws.{decimal-long}
 use Rattle.rules.proofs.FormLaws.{fill-number, fill-sign}
+use Rattle.text.proofs.SinkLaws.{Pieces}
 
 -- ---- one line
 
@@ -41,22 +42,25 @@ fill-short (s ∷ form) vs h =
 pub line-short : (form : List ℕ) {vs : List ℕ} → Words vs → length (fill form vs ++ lf) ≤ 20 * length form + 1
 line-short form {vs} h = omega (arith, length-append (fill form vs) lf, fill-short form vs h)
 
+-- ---- no pieces
+pub none-short : (most : ℕ) {f g : ℕ → List ℕ} → Pieces f g → length (f 0) ≤ most * 0
+none-short most p = omega (arith, ap length p.none)
+
 -- ---- the pieces before i, each of at most `most` bytes, and one more
-module _ (most : ℕ) (f g : ℕ → List ℕ) (grow : (i : ℕ) → f (suc i) ≡ f i ++ g i) (i : ℕ) (h : length (f i) ≤ most * i) where
+module _ (most : ℕ) {f g : ℕ → List ℕ} (p : Pieces f g) (i : ℕ) (h : length (f i) ≤ most * i) where
   piece-more : length (g i) ≤ most → length (f (i + 1)) ≤ most * (i + 1)
-  piece-more l = rw (add-one i, mul-suc most i) (omega (arith, ap length (grow i), length-append (f i) (g i)))
+  piece-more l = rw (add-one i, mul-suc most i) (omega (arith, ap length (p.grow i), length-append (f i) (g i)))
 
   -- the piece is w
-  pub piece-short : (w : List ℕ) → w ≡ g i → length w ≤ most → length (f (i + 1)) ≤ most * (i + 1)
-  piece-short w e l = piece-more (rw e at l)
+  pub piece-short : {w : List ℕ} → w ≡ g i → length w ≤ most → length (f (i + 1)) ≤ most * (i + 1)
+  piece-short e l = piece-more (rw e at l)
 
   pub no-piece-short : g i ≡ [] → length (f (i + 1)) ≤ most * (i + 1)
   no-piece-short e = piece-more (rw e (omega arith))
 
 -- ---- pieces of at most `most` bytes each
-pub pieces-short : (most : ℕ) (f g : ℕ → List ℕ) → ((i : ℕ) → f (suc i) ≡ f i ++ g i) → f 0 ≡ [] → (n : ℕ) → ((i : ℕ) → i < n → length (g i) ≤ most)
-    → length (f n) ≤ most * n
-pieces-short most f g grow none zero h = omega (arith, ap length none)
-pieces-short most f g grow none (suc n) h =
-    let ih = pieces-short most f g grow none n (λ i l. h i (omega arith)) in
-    rw (mul-suc most n) (omega (arith, ap length (grow n), length-append (f n) (g n), ih, h n (omega arith)))
+pub pieces-short : (most : ℕ) {f g : ℕ → List ℕ} → Pieces f g → (n : ℕ) → ((i : ℕ) → i < n → length (g i) ≤ most) → length (f n) ≤ most * n
+pieces-short most p zero h = omega (arith, ap length p.none)
+pieces-short most {f} {g} p (suc n) h =
+    let ih = pieces-short most p n (λ i l. h i (omega arith)) in
+    rw (mul-suc most n) (omega (arith, ap length (p.grow n), length-append (f n) (g n), ih, h n (omega arith)))

@@ -1,11 +1,10 @@
 -- Laws of the numbers written: how many digits a number has, and the loop that writes them from the last to the first.
-use Prim.Native.Nat.{ℕ, zero, suc, ◌+◌, ◌-◌, ◌/◌, ◌%◌, ◌≤◌, ◌<◌}
-use mathlib.Core.Path.{◌≡◌, refl, sym, ap, ◌∙◌}
-use mathlib.Core.List.{List, [], ◌∷◌, ◌++◌, append_assoc}
+use Prim.Native.Nat.{ℕ, zero, suc, ◌+◌, ◌/◌, ◌%◌, ◌≤◌, ◌<◌}
+use mathlib.Core.Path.{◌≡◌, refl, ap, ◌∙◌}
+use mathlib.Core.List.{List, [], ◌∷◌, ◌++◌}
 use native.Mathlib.Omega.{arith}
 use native.Mathlib.Numerals.{add-one}
-use lib.ListN.{length, take, drop, set, length-set, length-append}
-use lib.Seq.{set_split, drop_at, length-take-le}
+use lib.ListN.{length, drop, length-append}
 use Rattle.rules.specs.Text.{decimal}
 use Rattle.rules.specs.Calls.{overwritten}
 use Rattle.rules.proofs.NumeralLaws.{decimal-small, decimal-more, by_digits}
@@ -36,25 +35,3 @@ pub record Pending (value : ℕ) (old out : List ℕ) (k v : ℕ) : Type 0 where
 
 pub pending-start : (value : ℕ) (old : List ℕ) (n : ℕ) → n ≡ length (decimal value) → length (decimal value) ≤ length old → Pending value old old n value
 pending-start value old n e h = record { room = omega arith; long = refl; done = rw (e, last_digits value) }
-
-drop-set : (l : List ℕ) (i d : ℕ) → i < length l → drop i (set l i d) ≡ d ∷ drop (suc i) l
-drop-set l i d h = ap (λ (t : List ℕ). drop i t) (set_split l i d h) ∙ drop_at (take i l) _ i (length-take-le i l (omega arith))
-
-step : (value : ℕ) (old out : List ℕ) (k v d : ℕ) → Pending value old out (suc k) v → d ≡ 48 + v % 10 → Pending value old (set out k d) k (v / 10)
-step value old out k v d r e =
-    record {
-      room = omega (arith, r.room);
-      long = length-set out k d ∙ r.long;
-      done =
-          rw (drop-set out k d (omega (arith, r.room, r.long)), e)
-          (sym (append_assoc (last_digits_of k (v / 10)) ((48 + v % 10) ∷ []) (drop (suc k) out)) ∙ r.done);
-    }
-
-pub pending-more : (value : ℕ) (old out : List ℕ) (k v d : ℕ) → Pending value old out k v → 0 < k → d ≡ 48 + v % 10 → Pending value old (set out (k - 1) d)
-    (k - 1) (v / 10)
-pending-more value old out zero v d r h e = absurd (omega arith)
-pending-more value old out (suc k) v d r h e = let q : suc k - 1 ≡ k = omega arith in rw q (step value old out k v d r e)
-
-pub pending-end : (value : ℕ) (old out : List ℕ) (k v : ℕ) → Pending value old out k v → k ≤ 0 → out ≡ overwritten (decimal value) old
-pending-end value old out zero v r h = r.done
-pending-end value old out (suc k) v r h = absurd (omega arith)

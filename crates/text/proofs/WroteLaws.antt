@@ -7,7 +7,7 @@ use native.Mathlib.Omega.{arith}
 use lib.ListN.{length, take, drop, length-append, length-drop, drop_of_length-le}
 use lib.Seq.{take_at, drop_at, drop-drop}
 use Rattle.text.specs.Wrote.{Wrote}
-use Rattle.text.proofs.PartLaws.{tail-part}
+use Rattle.std.proofs.lemmas.List.{take_rest}
 
 pub wrote_none : (old : List ℕ) → Wrote [] 0 old old
 wrote_none old = record { count = refl; bytes = refl }
@@ -37,5 +37,5 @@ module _ {a old out : List ℕ} {at : ℕ} (o : Wrote a at old out) where
         record {
           count = rw length-append (omega (arith, o.count, p.count));
           bytes =
-              rw (take_out, p.bytes, tail-part out at, drop-out, none_left, append-nil, drop-drop (length w) at old, append_assoc, length-append, o.count);
+              rw (take_out, p.bytes, take_rest out at, drop-out, none_left, append-nil, drop-drop (length w) at old, append_assoc, length-append, o.count);
         }

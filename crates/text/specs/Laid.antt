@@ -1,8 +1,16 @@
--- What a sink of lines holds.
+-- What a sink of lines promises, and what it holds.
 use Rattle.std.specs.Prelude.{ℕ, ◌+◌, ◌-◌, ◌^◌, min, ◌<◌, ◌≤◌, ◌≡◌, List, [], ◌++◌, length, take, drop}
 use Rattle.std.proofs.Common.{arith, sym, ap, ◌∙◌, append_assoc, add-zero, take-append-drop}
 use Rattle.std.proofs.Math.ListN.{length-append, length-drop}
 use Rattle.std.proofs.Math.Seq.{take_at, drop_at, drop-drop, length-take-le}
+
+-- what a sink promises: nothing can be laid down, a text behind another is both as one, and room for both is room for the first, and behind it
+-- for the second
+pub record Lawful {T : Type 0} (room : T → List ℕ → Type 0) (laid : T → List ℕ → T → Type 0) : Type 0 where
+  pub none : (s : T) → room s [] → laid s [] s
+  pub more : (s t u : T) (a b : List ℕ) → laid s a t → laid t b u → laid s (a ++ b) u
+  pub front : (s : T) (a b : List ℕ) → room s (a ++ b) → room s a
+  pub left : (s t : T) (a b : List ℕ) → room s (a ++ b) → laid s a t → room t b
 
 -- the text a lies between at and end, the bytes before and behind it are the old ones
 pub record LaidBetween (at : ℕ) (old a : List ℕ) (end : ℕ) (new : List ℕ) : Type 0 where

@@ -3,7 +3,7 @@ ghost use Rattle.std.specs.Prelude.{◌≡◌, ◌+◌, ◌^◌, ◌<◌, ◌≤
 ghost use Rattle.std.proofs.Common.{◌∙◌};
 ghost use Rattle.rules.specs.Text.{lf, decimal, fill};
 ghost use Rattle.text.specs.Wrote.{Wrote};
-ghost use Rattle.text.specs.Laid.{LaidBetween, counted, counted_none, counted_more, counted_left, page_none, page_more, page_front, page_left};
+ghost use Rattle.text.specs.Laid.{Lawful, LaidBetween, counted, counted_none, counted_more, counted_left, page_none, page_more, page_front, page_left};
 
 use crate::numerals::{number_size, write_number};
 
@@ -56,13 +56,7 @@ pub trait Sink {
         self.byte(b'\n');
     }
 
-    ghost laid_none: { (s : Self) → room s [] → laid s [] s };
-
-    ghost laid_more: { (s t u : Self) (a b : List ℕ) → laid s a t → laid t b u → laid s (a ++ b) u };
-
-    ghost room_front: { (s : Self) (a b : List ℕ) → room s (a ++ b) → room s a };
-
-    ghost room_left: { (s t : Self) (a b : List ℕ) → room s (a ++ b) → laid s a t → room t b };
+    ghost lawful: { Lawful room laid };
 }
 
 // Counts bytes, as far as a `usize` goes.
@@ -76,13 +70,12 @@ impl Sink for Count {
 
     ghost laid = { λ s a t. t.bytes ≡ counted s.bytes a };
 
-    ghost laid_none = { λ s h. counted_none s.bytes h };
-
-    ghost laid_more = { λ s t u a b p q. counted_more s.bytes t.bytes u.bytes a b p q };
-
-    ghost room_front = { λ s a b h. h };
-
-    ghost room_left = { λ s t a b h p. counted_left s.bytes t.bytes a p };
+    ghost lawful = { record {
+      none = λ s h. counted_none s.bytes h;
+      more = λ s t u a b p q. counted_more s.bytes t.bytes u.bytes a b p q;
+      front = λ s a b h. h;
+      left = λ s t a b h p. counted_left s.bytes t.bytes a p;
+    } };
 
     fn byte(&mut self, _byte: u8) {
         self.bytes = self.bytes.saturating_add(1);
@@ -105,13 +98,12 @@ impl Sink for Page<'_> {
 
     ghost laid = { λ s a t. LaidBetween s.at s.out.now a t.at t.out.now × (t.out.ghost_name ≡ s.out.ghost_name) };
 
-    ghost laid_none = { λ s h. (page_none s.at s.out.now h, refl) };
-
-    ghost laid_more = { λ s t u a b p q. (page_more p.0 q.0, q.1 ∙ p.1) };
-
-    ghost room_front = { λ s a b h. page_front s.at (length s.out.now) a b h };
-
-    ghost room_left = { λ s t a b h p. page_left p.0 b h };
+    ghost lawful = { record {
+      none = λ s h. (page_none s.at s.out.now h, refl);
+      more = λ s t u a b p q. (page_more p.0 q.0, q.1 ∙ p.1);
+      front = λ s a b h. page_front s.at (length s.out.now) a b h;
+      left = λ s t a b h p. page_left p.0 b h;
+    } };
 
     fn byte(&mut self, byte: u8) {
         self.out[self.at] = byte;

@@ -1,6 +1,6 @@
 -- The lowest reader of an early file is the lowest task that reads one.
 use Prim.Native.Nat.{ℕ, ◌<◌}
-use mathlib.Core.Bool.{Bool, true, false, ◌||◌}
+use mathlib.Core.Bool.{Bool, true, ◌||◌}
 use mathlib.Core.Path.{◌≡◌, ◌∙◌}
 use native.Mathlib.Omega.{arith}
 use lib.Dec.{eqb, ltb}
@@ -21,14 +21,6 @@ use Rattle.validator.proofs.LeastLaws.{least-default, least-bound, least-reached
 
 abbrev pub reader_of : Instance → ℕ → ℕ
 reader_of I k = (file_at I k).reader
-
--- either of two tests
-module _ {a b : Bool} (e : a ≡ b) where
-  pub either_first : a ≡ true → (c : Bool) → true ≡ b || c
-  either_first h c = rw (← e, h)
-
-  pub either_second : a ≡ false → {c d : Bool} → d ≡ c → d ≡ b || c
-  either_second h g = rw (← e, h) g
 
 -- whether a file is early, from its move if it has one
 early-by : (I : Instance) (P : Schedule) (k : ℕ) (o : Option Transfer) → TransferOf I P k o

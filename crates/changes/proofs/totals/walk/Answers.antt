@@ -5,9 +5,6 @@ use Rattle.changes.proofs.totals.walk.Goals as goal
 pub loop-change-init : goal.loop-change-init
 loop-change-init c = walking-none _ _
 
-pub changed-total-requires : goal.changed-total-requires
-changed-total-requires c = omega (arith, c.loop-change.invariant.small)
-
 pub loop-change-preserved : goal.loop-change-preserved
 loop-change-preserved c =
     let e = c.changed-total.ensures in

@@ -1,14 +1,13 @@
 -- `instance::line::next_line` meets its contract: the line by the form that it has.
 use mathlib.Core.Path.{◌∙◌}
-use Rattle.std.proofs.lemmas.Result.{err_from_is_err_and}
+use Rattle.text.proofs.DueLaws.{is-err}
 use Rattle.rules.specs.InstanceText.{board_form, task_form, work_form, file_form}
 use Rattle.instance.proofs.ParseLaws.{cut-right, cut-wrong, file-says, task-says, work-says, board-says, no-form}
 use Rattle.instance.proofs.line.next_line.Goals as goal
 
 pub returns-in_err-value : goal.returns-in_err-value
 returns-in_err-value c =
-    let p = err_from_is_err_and c.from_residual.result c.from_residual.ensures.1 in
-    rw (p.1, p.2) (cut-wrong file_form _ c.in-Some.ensures _ (c.in_err-value.ensures ∙ file-says _ c.in-Some.ensures))
+    rw (is-err _ c.from_residual.ensures.1) (cut-wrong file_form _ c.in-Some.ensures _ (c.in_err-value.ensures ∙ file-says _ c.in-Some.ensures))
 
 pub returns-in-Some : goal.returns-in-Some
 returns-in-Some c =
@@ -18,8 +17,7 @@ returns-in-Some c =
 pub returns-in_err-value-2 : goal.returns-in_err-value-2
 returns-in_err-value-2 c =
     let r = c.in-Some-line_by.ensures in
-    let p = err_from_is_err_and c.from_residual-in_err-value-2.result c.from_residual-in_err-value-2.ensures.1 in
-    rw (p.1, p.2) (cut-wrong task_form _ r _ (c.in_err-value-2.ensures ∙ task-says _ r))
+    rw (is-err _ c.from_residual-in_err-value-2.ensures.1) (cut-wrong task_form _ r _ (c.in_err-value-2.ensures ∙ task-says _ r))
 
 pub returns-in-Some-line_by : goal.returns-in-Some-line_by
 returns-in-Some-line_by c =
@@ -30,8 +28,7 @@ returns-in-Some-line_by c =
 pub returns-in_err-value-3 : goal.returns-in_err-value-3
 returns-in_err-value-3 c =
     let r = c.in-Some-line_by-2.ensures in
-    let p = err_from_is_err_and c.from_residual-in_err-value-3.result c.from_residual-in_err-value-3.ensures.1 in
-    rw (p.1, p.2) (cut-wrong work_form _ r _ (c.in_err-value-3.ensures ∙ work-says _ c.in_default-line_by.ensures r))
+    rw (is-err _ c.from_residual-in_err-value-3.ensures.1) (cut-wrong work_form _ r _ (c.in_err-value-3.ensures ∙ work-says _ c.in_default-line_by.ensures r))
 
 pub returns-in-Some-line_by-2 : goal.returns-in-Some-line_by-2
 returns-in-Some-line_by-2 c =
@@ -46,8 +43,7 @@ returns-in_default-line_by-3 c =
 pub returns-in_err-value-4 : goal.returns-in_err-value-4
 returns-in_err-value-4 c =
     let r = c.in-Some-line_by-3.ensures in
-    let p = err_from_is_err_and c.from_residual-in_err-value-4.result c.from_residual-in_err-value-4.ensures.1 in
-    rw (p.1, p.2) (cut-wrong board_form _ r _ (c.in_err-value-4.ensures ∙ board-says _ r))
+    rw (is-err _ c.from_residual-in_err-value-4.ensures.1) (cut-wrong board_form _ r _ (c.in_err-value-4.ensures ∙ board-says _ r))
 
 pub returns : goal.returns
 returns c =

@@ -6,13 +6,12 @@ use lib.ListN.{length}
 use borrow.Author.Tests.{eqb-true, eqb-false}
 use native.Mathlib.Omega.{arith}
 use Rattle.std.proofs.Common.{rules, of_calls, ◌≡◌}
-use Rattle.std.proofs.lemmas.Result.{err_from_is_err_and}
 use Rattle.rules.specs.declared.refusal.Refusal.TheVariants.{Sheet}
 use Rattle.rules.specs.InstanceText.{instance_line, with_line}
 use Rattle.model.specs.Layout.{instance_with}
 use Rattle.text.specs.Due.{Took}
-use Rattle.text.proofs.DueLaws.{took-ok, took-err, mapped-err, mapped-ok}
-use Rattle.instance.proofs.ReadLaws.{reading-start, reading-refused, reading-next, reading-absent, reading-done}
+use Rattle.text.proofs.DueLaws.{is-err, due-taken, due-refused}
+use Rattle.instance.proofs.ReadLaws.{reading-refused, reading-next, reading-absent, reading-done}
 use Rattle.instance.proofs.sheet.rest_of.Goals as goal
 
 some-left : (n : ℕ) (r : Bool) → r ≡ eqb n 0 → r ≡ false → 0 < n
@@ -21,27 +20,19 @@ some-left n r e f = let h : n ≡ 0 → ⊥ = eqb-false n 0 (sym e ∙ f) in ome
 none-left : (n : ℕ) (r : Bool) → r ≡ eqb n 0 → r ≡ true → n ≤ 0
 none-left n r e f = omega (arith, eqb-true n 0 (sym e ∙ f))
 
-pub loop-rest-init : goal.loop-rest-init
-loop-rest-init c = reading-start _ _ _
-
 pub returns-in_err-step : goal.returns-in_err-step
 returns-in_err-step c =
-    let p = err_from_is_err_and c.from_residual.result c.from_residual.ensures.1 in
-    let (w, e, k) = mapped-err _ c.go_on.result c.map_err.ensures.cases _ c.in_err-step.was in
+    let (w, k, d) = due-refused instance_line (with_line (instance_with c.args.board c.loop-rest.numbers)) (λ u. instance_with c.args.board c.go_on.new.numbers)
+    c.loop-rest.rest.now c.go_on.result (c.go_on.ensures c.args.board) _ c.map_err.ensures.cases c.in_err-step.was in
     let q : c.in_err-step.field-0.0 ≡ Sheet w c.loop-rest.line = search (rules, of_calls) in
-    let d = took-err instance_line (with_line (instance_with c.args.board c.loop-rest.numbers)) (λ u. instance_with c.args.board c.go_on.new.numbers)
-    c.loop-rest.rest.now (c.go_on.ensures c.args.board) e in
-    rw (p.1, p.2, q) (reading-refused c.loop-rest.invariant (some-left _ _ c.is_empty.ensures c.loop-rest-test.true) _ d)
-
-pub overflow_add-line : goal.overflow_add-line
-overflow_add-line c = omega (arith, c.loop-rest.invariant.places, c.requires)
+    rw (is-err _ c.from_residual.ensures.1, q) (reading-refused c.loop-rest.invariant (some-left _ _ c.is_empty.ensures c.loop-rest-test.true) _ d)
 
 module _ (c : goal.After-rest-1) where
   abbrev took : Took instance_line (with_line (instance_with c.args.board c.loop-rest.numbers)) c.loop-rest.rest.now c.in_ok-step.step.rest.now
       (instance_with c.args.board c.go_on.new.numbers)
   took =
-      took-ok instance_line (with_line (instance_with c.args.board c.loop-rest.numbers)) (λ u. instance_with c.args.board c.go_on.new.numbers)
-      c.loop-rest.rest.now (c.go_on.ensures c.args.board) (mapped-ok _ c.go_on.result c.map_err.ensures.cases _ c.in_ok-step.was)
+      due-taken instance_line (with_line (instance_with c.args.board c.loop-rest.numbers)) (λ u. instance_with c.args.board c.go_on.new.numbers)
+      c.loop-rest.rest.now c.go_on.result (c.go_on.ensures c.args.board) _ c.map_err.ensures.cases c.in_ok-step.was
 
 pub loop-rest-smaller : goal.loop-rest-smaller
 loop-rest-smaller c = (took c).shorter

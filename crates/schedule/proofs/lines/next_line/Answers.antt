@@ -1,6 +1,6 @@
 -- `schedule::lines::next_line` meets its contract: the line by the form that it has.
 use mathlib.Core.Path.{◌∙◌}
-use Rattle.std.proofs.lemmas.Result.{err_from_is_err_and}
+use Rattle.text.proofs.DueLaws.{is-err}
 use Rattle.rules.specs.ScheduleText.{run_form, move_form, claim_form}
 use Rattle.model.specs.Jobs.{instance_in}
 use Rattle.schedule.proofs.LineLaws.{cut-right, cut-wrong, run-says, move-says, claim-says, no-form}
@@ -10,8 +10,7 @@ pub returns-in_err-value : goal.returns-in_err-value
 returns-in_err-value c =
     let I = instance_in c.args.job.now in
     let r = c.in-Some.ensures in
-    let p = err_from_is_err_and c.from_residual.result c.from_residual.ensures.1 in
-    rw (p.1, p.2) (cut-wrong I move_form _ r _ (c.in_err-value.ensures ∙ move-says I _ r))
+    rw (is-err _ c.from_residual.ensures.1) (cut-wrong I move_form _ r _ (c.in_err-value.ensures ∙ move-says I _ r))
 
 pub returns-in-Some : goal.returns-in-Some
 returns-in-Some c =
@@ -24,8 +23,7 @@ pub returns-in_err-value-2 : goal.returns-in_err-value-2
 returns-in_err-value-2 c =
     let I = instance_in c.args.job.now in
     let r = c.in-Some-line_by.ensures in
-    let p = err_from_is_err_and c.from_residual-in_err-value-2.result c.from_residual-in_err-value-2.ensures.1 in
-    rw (p.1, p.2) (cut-wrong I run_form _ r _ (c.in_err-value-2.ensures ∙ run-says I _ r))
+    rw (is-err _ c.from_residual-in_err-value-2.ensures.1) (cut-wrong I run_form _ r _ (c.in_err-value-2.ensures ∙ run-says I _ r))
 
 pub returns-in-Some-line_by : goal.returns-in-Some-line_by
 returns-in-Some-line_by c =
@@ -42,8 +40,7 @@ pub returns-in_err-value-3 : goal.returns-in_err-value-3
 returns-in_err-value-3 c =
     let I = instance_in c.args.job.now in
     let r = c.in-Some-line_by-2.ensures in
-    let p = err_from_is_err_and c.from_residual-in_err-value-3.result c.from_residual-in_err-value-3.ensures.1 in
-    rw (p.1, p.2) (cut-wrong I claim_form _ r _ (c.in_err-value-3.ensures ∙ claim-says I _ r))
+    rw (is-err _ c.from_residual-in_err-value-3.ensures.1) (cut-wrong I claim_form _ r _ (c.in_err-value-3.ensures ∙ claim-says I _ r))
 
 pub returns : goal.returns
 returns c =

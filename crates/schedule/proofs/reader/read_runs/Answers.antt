@@ -2,10 +2,9 @@ use Prim.Native.Nat.{◌+◌}
 use mathlib.Core.Path.{◌≡◌}
 use native.Mathlib.Omega.{arith}
 use Rattle.std.proofs.Common.{rules, of_calls}
-use Rattle.std.proofs.lemmas.Result.{err_from_is_err_and}
 use Rattle.rules.specs.ScheduleText.{schedule_line, run_of}
 use Rattle.rules.specs.declared.refusal.Refusal.TheVariants.{Timetable}
-use Rattle.text.proofs.DueLaws.{mapped-err, mapped-ok, took-ok, took-err}
+use Rattle.text.proofs.DueLaws.{is-err, due-taken, due-refused}
 use Rattle.model.specs.Jobs.{instance_in}
 use Rattle.schedule.specs.Reading.{as_run}
 use Rattle.schedule.proofs.ReadLoops.{runs-start, runs-refused, runs-next, runs-end}
@@ -16,18 +15,17 @@ loop-i-init c = runs-start _ _ _
 
 pub returns-in_err-due : goal.returns-in_err-due
 returns-in_err-due c =
-    let p = err_from_is_err_and c.from_residual.result c.from_residual.ensures.1 in
-    let (w, e, k) = mapped-err _ c.due_run.result c.map_err.ensures.cases _ c.in_err-due.was in
+    let (w, k, d) = due-refused (schedule_line (instance_in c.args.job.now)) (run_of (c.loop-i.i + 1)) as_run c.loop-i.rest.now c.due_run.result
+    c.due_run.ensures _ c.map_err.ensures.cases c.in_err-due.was in
     let q : c.in_err-due.field-0.0 ≡ Timetable w (c.loop-i.i + 1) = search (rules, of_calls) in
-    rw (p.1, p.2, q)
-    (runs-refused c.loop-i.invariant (omega arith) _
-    (took-err (schedule_line (instance_in c.args.job.now)) (run_of (c.loop-i.i + 1)) as_run c.loop-i.rest.now c.due_run.ensures e))
+    rw (is-err _ c.from_residual.ensures.1, q)
+    (runs-refused c.loop-i.invariant (omega arith) _ d)
 
 pub loop-i-preserved : goal.loop-i-preserved
 loop-i-preserved c =
-    let e = mapped-ok _ c.due_run.result c.map_err.ensures.cases _ c.in_ok-due.was in
     runs-next c.loop-i.invariant (omega arith) c.args.job.now.in_bounds.tasks c.set_run.ensures.schedule_len.0 c.in_ok-due.due.value
-    (took-ok (schedule_line (instance_in c.args.job.now)) (run_of (c.loop-i.i + 1)) as_run c.loop-i.rest.now c.due_run.ensures e)
+    (due-taken (schedule_line (instance_in c.args.job.now)) (run_of (c.loop-i.i + 1)) as_run c.loop-i.rest.now c.due_run.result c.due_run.ensures _
+    c.map_err.ensures.cases c.in_ok-due.was)
     _ c.set_run.ensures.schedule_after
 
 pub returns : goal.returns

@@ -1,10 +1,7 @@
 use mathlib.Core.Path.{sym, ◌∙◌}
 use native.Mathlib.Omega.{arith}
-use Rattle.text.proofs.LineAtLaws.{skipping-start, skipping-none, skipping-more, skipping-end}
+use Rattle.text.proofs.LineAtLaws.{skipping-none, skipping-more, skipping-end}
 use Rattle.text.proofs.lines.line_from.Goals as goal
-
-pub loop-k-init : goal.loop-k-init
-loop-k-init c = skipping-start _ _ _ (omega arith)
 
 pub returns-then-rest-len : goal.returns-then-rest-len
 returns-then-rest-len c =

@@ -7,7 +7,6 @@ use Rattle.rules.specs.Validity.{Claim, Verdict, overlaps, reads_early, judged_m
 use Rattle.model.specs.Claims.{as_claim}
 use Rattle.model.specs.declared.timetable.Timetable.{Timetable}
 use Rattle.model.specs.Jobs.{instance_in, schedule_in}
-use Rattle.model.specs.Layout.{entries_of}
 use Rattle.model.proofs.JobLaws.{tasks-in, placed-complete}
 use Rattle.validator.proofs.JudgeSteps.{judge-15, judge-on, judge-16, timing-on, timely, judge-17, judge-18, judge-0}
 use Rattle.validator.proofs.MemoryLaws.{over-at, over-never}
