@@ -8,4 +8,4 @@ use Rattle.placement.proofs.processor.chosen_processor.Given as goal
 
 abbrev pub invariant-loop-p : goal.invariant-loop-p
 invariant-loop-p l =
-    (l.p-end ≡ count_in l.job.shape l.colour) × ((q : ℕ) → q < l.p → latest_free_in l.job.shape l.finishes l.colour l.start q ≡ false)
+    (l.p-end ≡ count_in l.job.board l.colour) × ((q : ℕ) → q < l.p → latest_free_in l.job l.finishes l.colour l.start q ≡ false)
