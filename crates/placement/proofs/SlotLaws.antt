@@ -6,7 +6,7 @@ use mathlib.Core.List.{List}
 use mathlib.Core.Path.{◌≡◌, refl, sym, ap, ◌∙◌}
 use native.Mathlib.Omega.{arith}
 use lib.Dec.{leb, eqb}
-use Rattle.std.specs.Prelude.{Option, None, Some, IsSome}
+use Rattle.std.specs.Prelude.{Option, None, Some, IsSome, MatchOption}
 use Rattle.std.specs.Option.{unwrap_or}
 use Rattle.rules.specs.Count.{max_where}
 use Rattle.rules.specs.Limits.{processor_counts, all_processors}
@@ -72,10 +72,6 @@ module _ (j : Job) (xs : List ℕ) (x : Colour) (s : ℕ) where
   pub latest-total : {n : ℕ} → n ≡ count_in j.board x → max_where n free_in (last_in j.board xs x) ≡ latest_in
   latest-total e = ap (λ n. max_where n free_in (last_in j.board xs x)) e
 
-  pub latest-free-from : (p : ℕ) {f latest : ℕ} {r v : Bool} → f ≡ last_in j.board xs x p → latest ≡ latest_in → r ≡ leb f s && eqb f latest → r ≡ v
-      → latest_free_in p ≡ v
-  latest-free-from p e q t h = rw (← h, t, q, e)
-
   module _ (L : Entries) where
     abbrev I : Instance
     I = instance_in j
@@ -103,6 +99,15 @@ module _ (j : Job) (xs : List ℕ) (x : Colour) (s : ℕ) where
         let n : (side_of I c).processors ≡ count_in j.board x = processors-of j.board j.tasks.now j.files.now x in
         first-passed (side_of I c).processors (latest_free I Q c s) p (omega arith)
         (λ h. latest-free-at p (omega arith) ∙ here (omega arith)) (λ q h. latest-free-at q (omega arith) ∙ before q h)
+
+    -- the code's answer to a search for it, where the rules have the colour's count for none
+    pub chosen-found : (o : Option ℕ) {n latest : ℕ} → n ≡ count_in j.board x → latest ≡ latest_in
+        → MatchOption o ((q : ℕ) → 0 ≤ q → q < n → (free_in q && eqb (last_in j.board xs x q) latest) ≡ false)
+        (λ p. (0 ≤ p) × (p < n) × ((free_in p && eqb (last_in j.board xs x p) latest) ≡ true)
+        × ((q : ℕ) → 0 ≤ q → q < p → (free_in q && eqb (last_in j.board xs x q) latest) ≡ false))
+        → unwrap_or o (count_in j.board x) ≡ chosen_processor I Q c s
+    chosen-found None e d h = chosen-first (count_in j.board x) (omega arith) (λ q l. rw d at (h q (omega arith) (omega arith))) (λ l. absurd (omega arith))
+    chosen-found (Some p) e d h = chosen-first p (omega (arith, h.1)) (λ q l. rw d at (h.3 q (omega arith) l)) (λ l. rw d at (h.2))
 
     -- it exists, if the start is not before start 1
     pub chosen-exists : Processors j.board → processor_start I Q c ≤ s → {p : ℕ} → p ≡ chosen_processor I Q c s → p < count_in j.board x

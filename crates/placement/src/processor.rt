@@ -71,10 +71,9 @@ pub fn chosen_processor(job: &Job, finishes: &Finishes, colour: Colour, start: u
     ensures exists { IfSome result (λ p. p < count_in job.now.board colour) }
 {
     let latest = latest_in(job, finishes, colour, start);
-    for p in 0..count_in(job, colour) {
-        if is_latest_free(last_in(job, finishes, colour, p), start, latest) {
-            return Some(p);
-        }
-    }
-    None
+    (0..count_in(job, colour)).find(|p| is_latest_free(
+        last_in(job, finishes, colour, *p),
+        start,
+        latest,
+    ))
 }
