@@ -1,5 +1,5 @@
 -- `write_left` meets its contract: what is left is in its bounds and on time, and is written with its true claim.
-use Rattle.std.proofs.Common.{◌≡◌, ◌∙◌, ap}
+use Rattle.std.proofs.Common.{◌≡◌, ◌∙◌, ap, arith}
 use Rattle.rules.specs.Calls.{plan_text}
 use Rattle.rules.specs.Conversion.{without_trials, output}
 use Rattle.model.specs.Jobs.{instance_in, schedule_of}
@@ -9,7 +9,10 @@ use Rattle.convert_text.proofs.LeftLaws.{left-bounds, left-placed, left-is}
 use Rattle.convert_text.proofs.strip.write_left.Goals as goal
 
 pub strip-requires : goal.strip-requires
-strip-requires c = let j = c.args.job.now in fits j (c.added.ensures.value j.board j.files.now) c.requires.convertible
+strip-requires c =
+    let j = c.args.job.now in
+    let few = fits j (c.added.ensures.value j.board j.files.now) c.requires.convertible in
+    (omega (arith, few.0), omega (arith, few.1))
 
 pub invariant_of-timetable : goal.invariant_of-timetable
 invariant_of-timetable c =
