@@ -2,7 +2,7 @@
 use Prim.Native.Nat.{ℕ, ◌+◌}
 use mathlib.Core.List.{List}
 use mathlib.Core.Option.{Option}
-use mathlib.Core.Path.{◌≡◌, refl, sym, subst, ◌∙◌}
+use mathlib.Core.Path.{◌≡◌, refl, sym, ap₂, subst, ◌∙◌}
 use lib.ListN.{length}
 use native.Mathlib.Omega.{arith}
 use borrow.Author.Tests.{eq-eqb, ne_eqb}
@@ -110,4 +110,6 @@ module _ (j : Job) (xs : StoredSchedule) (P : Schedule) (e : schedule_of j xs �
 pub left-is : (j : Job) (xs : StoredSchedule) (Q : Schedule) (m : ℕ) → m ≡ added_count (instance_in j)
     → ((I : Instance) → added_count I ≡ m → Q ≡ stripped I (schedule_from (m + length j.tasks.now) (m + length j.files.now) (entries_of xs)))
     → Q ≡ stripped (instance_in j) (wide_schedule (instance_in j) xs)
-left-is j xs Q m e h = rw (tasks-in j, files-in j) (rw e at (h (instance_in j) (sym e)))
+left-is j xs Q m e h =
+    h (instance_in j) (sym e)
+    ∙ ap₂ (λ n k. stripped (instance_in j) (schedule_from n k (entries_of xs))) (omega (arith, e, tasks-in j)) (omega (arith, e, files-in j))

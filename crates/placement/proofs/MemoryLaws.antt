@@ -15,14 +15,13 @@ use Rattle.rules.proofs.Tests.{split}
 use Rattle.model.specs.declared.job.Job.{Job}
 use Rattle.model.specs.declared.layout.Schedule.{Schedule as StoredSchedule}
 use Rattle.model.specs.declared.trial.Trial.{Trial}
-use Rattle.model.specs.Jobs.{instance_in}
+use Rattle.model.specs.Jobs.{instance_in, schedule_of}
 use Rattle.model.specs.declared.colour.Colour as Code
 use Rattle.model.specs.declared.colour.Colour.TheVariants.{Blue, Red}
 use Rattle.model.specs.declared.crossing.Cost.{Cost}
 use Rattle.model.specs.Colours.{as_colour}
 use Rattle.model.specs.Costs.{CostOf}
-use Rattle.model.specs.Layout.{job_of, schedule_of}
-use Rattle.model.proofs.LayoutLaws.{file-count, move-time-at}
+use Rattle.model.proofs.JobLaws.{files-in, file-in}
 use Rattle.links.specs.Chains.{NextOf}
 use Rattle.staircase.specs.Steps.{change_by, Ascending, Fits}
 use Rattle.staircase.specs.Stairs.{Pending, Made}
@@ -75,7 +74,7 @@ module _ (j : Job) (schedule : StoredSchedule) (x : Trial) where
   I = instance_in j
 
   abbrev P : Schedule
-  P = schedule_of j.shape schedule
+  P = schedule_of j schedule
 
   abbrev crosses : ℕ → Bool
   crosses = crossing I P x.task (as_colour x.colour)
@@ -94,9 +93,9 @@ module _ (j : Job) (schedule : StoredSchedule) (x : Trial) where
     moves-some {d} e l = moves-one k
         ∙ some_in (crosses k) (move_time_at I k) (size_at I k) x.start y.move_time y.newly_held d cost.move_time cost.newly_held e l
 
-    pub moves-none : k < j.shape.files → y.move_time ≤ 0 → moves k 1 ≡ []
+    pub moves-none : k < (length j.files.now) → y.move_time ≤ 0 → moves k 1 ≡ []
     moves-none h l =
-        let m : 1 ≤ move_time_at I k = omega (arith, (j.in_bounds.move_time k h).least, move-time-at j.shape (job_of j.numbers.now) k h) in
+        let m : 1 ≤ move_time_at I k = omega (arith, (j.in_bounds.move_time k h).least, ap (λ f. f.move_time) (file-in j k)) in
         moves-one k ∙ none_in (crosses k) (move_time_at I k) (size_at I k) x.start y.move_time m cost.move_time l
 
   -- ---- some files, then others
@@ -152,10 +151,10 @@ module _ (j : Job) (schedule : StoredSchedule) (x : Trial) where
 
   module _ {y : Sizes} (sizes : SizesOf I P x y) where
     -- it runs so long from its start, and is then released
-    module _ (inside : x.task < j.shape.tasks) {time release : ℕ} (takes : time ≡ time_on (as_colour x.colour) (task_at I x.task))
+    module _ (inside : x.task < (length j.tasks.now)) {time release : ℕ} (takes : time ≡ time_on (as_colour x.colour) (task_at I x.task))
         (until : release ≡ max (x.start + time) (x.start + 1)) where
       abbrev moved : List Change
-      moved = moves 0 j.shape.files
+      moved = moves 0 (length j.files.now)
 
       abbrev begun : List Change
       begun = change_if x.start true y.room
@@ -167,7 +166,7 @@ module _ (j : Job) (schedule : StoredSchedule) (x : Trial) where
       unfolding own_changes
       own_is =
           let e : release ≡ release_on I x.task (as_colour x.colour) x.start = omega arith in
-          rw (file-count j.shape (job_of j.numbers.now), sizes.room, sizes.kept, e)
+          rw (files-in j, sizes.room, sizes.kept, e)
 
       module _ {ss : List Step} (Q : Pending (own_of j schedule x) ss) where
         whole : Pending ((moved ++ begun) ++ released) ss

@@ -1,4 +1,5 @@
 -- The partial schedule with one task more, and with nothing placed.
+use Rattle.model.specs.Layout.{schedule_from}
 use Prim.Native.Nat.{ℕ, suc, ◌+◌, ◌≤◌, ◌<◌}
 use mathlib.Core.List.{List}
 use mathlib.Core.Path.{◌≡◌, refl, subst, sym, ap, ◌∙◌}
@@ -18,15 +19,17 @@ use Rattle.rules.proofs.CountLaws.{list_set, list_same, get_or-same}
 use Rattle.rules.proofs.PlacedLaws.{count-waits}
 use Rattle.rules.proofs.StairsLaws.{placed-sound}
 use Rattle.rules.proofs.StartLaws.{starts, free-processor, processor_law, slot_for, slot-exists, last-here}
-use Rattle.model.specs.declared.layout.Shape.{Shape}
 use Rattle.model.specs.declared.layout.Run.{Run as StoredRun}
 use Rattle.model.specs.declared.layout.Schedule.{Schedule as StoredSchedule}
 use Rattle.model.specs.declared.colour.Colour.{Colour}
 use Rattle.model.specs.declared.colour.Colour.TheVariants.{Blue, Red}
 use Rattle.model.specs.Colours.{as_colour}
-use Rattle.model.specs.Layout.{Job, entries_of, run_from, instance_from, schedule_from, schedule_of, partial_from, count_in, JobBounds, WholeSchedule, unplaced as no_runs}
+use Rattle.model.specs.declared.job.Job.{Job}
+use Rattle.model.specs.Layout.{entries_of, run_from, count_in, JobBounds, WholeSchedule, unplaced as no_runs}
+use Rattle.model.specs.Jobs.{instance_in, schedule_by, schedule_of, partial_by}
 use Rattle.model.specs.Layout.{last_tick, with_run_at}
-use Rattle.model.proofs.LayoutLaws.{file-count, task-count, processors-of}
+use Rattle.model.proofs.LayoutLaws.{processors-of}
+use Rattle.model.proofs.JobLaws.{files-in, tasks-in}
 use Rattle.model.proofs.WriteLaws.{run-here, run-other}
 use Rattle.placement.specs.Slots.{slot_in}
 use Rattle.placement.proofs.SlotLaws.{slot_at, slot-exists as slot-within}
@@ -38,45 +41,45 @@ parts : {r r' : List Run} {m m' l l' : List ℕ} → r ≡ r' → m ≡ m' → l
     (record { schedule = record { runs = r'; moves = m' }; last_finish = l' })
 parts p q e = rw (p, q, e)
 
-module _ {b : Shape} {J : Job} (f : JobBounds b J) (xs : StoredSchedule) (last : List ℕ) (x : Colour) {i : ℕ} (inside : i < b.tasks) (s : ℕ) where
+module _ (j : Job) (xs : StoredSchedule) (last : List ℕ) (x : Colour) {i : ℕ} (inside : i < (length j.tasks.now)) (s : ℕ) where
   abbrev I : Instance
-  I = instance_from b J
+  I = instance_in j
 
   abbrev Q : Partial
-  Q = partial_from b (entries_of xs) last
+  Q = partial_by j (entries_of xs) last
 
   module _ (ys : StoredSchedule) (size : WholeSchedule ys)
-      (same : (j : ℕ) → j < max_tasks → run_from (entries_of ys) j ≡ run_from (entries_of xs) j) (p : ℕ) where
+      (same : (t : ℕ) → t < max_tasks → run_from (entries_of ys) t ≡ run_from (entries_of xs) t) (p : ℕ) where
     module _ {slot time : ℕ} (known : length last ≡ all_processors)
-        (moves : list_below b.files (entries_of ys).move_start ≡ list_below (file_count I) (move_with I (schedule_of b xs) i (as_colour x) s))
-        (chosen : p ≡ chosen_processor I Q (as_colour x) s) (exists : p < count_in b x)
-        (here : slot ≡ slot_in b x p) (takes : time ≡ time_on (as_colour x) (task_at I i)) where
+        (moves : list_below (length j.files.now) (entries_of ys).move_start ≡ list_below (file_count I) (move_with I (schedule_of j xs) i (as_colour x) s))
+        (chosen : p ≡ chosen_processor I Q (as_colour x) s) (exists : p < count_in j.board x)
+        (here : slot ≡ slot_in j.board x p) (takes : time ≡ time_on (as_colour x) (task_at I i)) where
       l : i < max_tasks
-      l = omega (arith, f.tasks)
+      l = omega (arith, j.in_bounds.tasks)
 
       -- the place of the processor chosen
       at : slot_of I (as_colour x) (chosen_processor I Q (as_colour x) s) ≡ slot
-      at = slot_at b J x _ ∙ rw (here, chosen)
+      at = slot_at j x _ ∙ rw (here, chosen)
 
       finish : s + time ≡ finish_on I i (as_colour x) s
       finish = omega arith
 
-      runs-placed : list_below b.tasks (run_from (entries_of (with_run_at ys i (slot + 1) s)))
-          ≡ set (list_below b.tasks (run_from (entries_of xs))) i (record { processor = suc slot; start = s })
+      runs-placed : list_below (length j.tasks.now) (run_from (entries_of (with_run_at ys i (slot + 1) s)))
+          ≡ set (list_below (length j.tasks.now) (run_from (entries_of xs))) i (record { processor = suc slot; start = s })
       runs-placed =
-          list_set b.tasks (run_from (entries_of xs)) (run_from (entries_of (with_run_at ys i (slot + 1) s))) i _ inside
+          list_set (length j.tasks.now) (run_from (entries_of xs)) (run_from (entries_of (with_run_at ys i (slot + 1) s))) i _ inside
           (run-here ys (omega (arith, size.0, l)) (slot + 1) s ∙ rw (add-one slot))
-          (λ j h d. run-other ys (omega (arith, size.0, l)) (slot + 1) s j d ∙ same j (omega (arith, f.tasks)))
+          (λ t h d. run-other ys (omega (arith, size.0, l)) (slot + 1) s t d ∙ same t (omega (arith, j.in_bounds.tasks)))
 
-      last-placed : list_below (b.board.blue.processors + b.board.red.processors) (λ q. get_or (set last slot (s + time)) q 0)
-          ≡ set (list_below (b.board.blue.processors + b.board.red.processors) (λ q. get_or last q 0)) slot (s + time)
+      last-placed : list_below (j.board.blue.processors + j.board.red.processors) (λ q. get_or (set last slot (s + time)) q 0)
+          ≡ set (list_below (j.board.blue.processors + j.board.red.processors) (λ q. get_or last q 0)) slot (s + time)
       last-placed =
-          let u : slot < b.board.blue.processors + b.board.red.processors = omega (arith, slot-within b x p exists) in
+          let u : slot < j.board.blue.processors + j.board.red.processors = omega (arith, slot-within j x p exists) in
           list_set _ (λ q. get_or last q 0) (λ q. get_or (set last slot (s + time)) q 0) slot (s + time) u
-          (get_or-set_same last slot (s + time) 0 (omega (arith, f.processors.blue.most, f.processors.red.most)))
+          (get_or-set_same last slot (s + time) 0 (omega (arith, j.in_bounds.processors.blue.most, j.in_bounds.processors.red.most)))
           (λ q h d. get_or-set_other last slot q (s + time) 0 d)
 
-      pub assigned : {zs : StoredSchedule} → zs ≡ with_run_at ys i (slot + 1) s → partial_from b (entries_of zs) (set last slot (s + time)) ≡ assign I Q i (as_colour x) s
+      pub assigned : {zs : StoredSchedule} → zs ≡ with_run_at ys i (slot + 1) s → partial_by j (entries_of zs) (set last slot (s + time)) ≡ assign I Q i (as_colour x) s
       unfolding assign schedule_from
       assigned e = rw (e, at, ← finish) (parts runs-placed moves last-placed)
 
@@ -106,14 +109,14 @@ run-none j =
     let run = λ (r : StoredRun). ◌≡◌ {A = Run} (record { processor = r.processor; start = r.start }) unplaced in
     subst run (sym (get_or-same max_tasks j none)) refl
 
-pub empty-from : (b : Shape) (J : Job) (n : ℕ) → partial_from b (entries_of no_runs) (replicate n 0) ≡ empty (instance_from b J)
+pub empty-from : (j : Job) (n : ℕ) → partial_by j (entries_of no_runs) (replicate n 0) ≡ empty (instance_in j)
 unfolding empty schedule_from
-empty-from b J n =
-    let count : b.board.blue.processors + b.board.red.processors ≡ processor_count (instance_from b J) = omega
-    (arith, processors-of b J Blue, processors-of b J Red) in
+empty-from j n =
+    let count : j.board.blue.processors + j.board.red.processors ≡ processor_count (instance_in j) = omega
+    (arith, processors-of j.board j.tasks.now j.files.now Blue, processors-of j.board j.tasks.now j.files.now Red) in
     parts
-    (list_same b.tasks (run_from (entries_of no_runs)) unplaced (λ j h. run-none j) ∙ ap (λ k. replicate k unplaced)
-    (sym (task-count b J)))
-    (list_same b.files (entries_of no_runs).move_start 0 (λ k h. get_or-same max_files k 0) ∙ ap (λ k. replicate k 0) (sym (file-count b J)))
-    (list_same (b.board.blue.processors + b.board.red.processors) (λ q. get_or (replicate n 0) q 0) 0 (λ q h. get_or-same n q 0) ∙ ap
+    (list_same (length j.tasks.now) (run_from (entries_of no_runs)) unplaced (λ t h. run-none t) ∙ ap (λ k. replicate k unplaced)
+    (sym (tasks-in j)))
+    (list_same (length j.files.now) (entries_of no_runs).move_start 0 (λ k h. get_or-same max_files k 0) ∙ ap (λ k. replicate k 0) (sym (files-in j)))
+    (list_same (j.board.blue.processors + j.board.red.processors) (λ q. get_or (replicate n 0) q 0) 0 (λ q h. get_or-same n q 0) ∙ ap
     (λ k. replicate k 0) count)

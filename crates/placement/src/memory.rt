@@ -1,8 +1,9 @@
 // Both memories' staircases, as a task is placed: what it occupies in its own, and what leaves the other.
-ghost use Rattle.std.specs.Prelude.{false, ◌<◌, ◌≤◌};
+ghost use Rattle.std.specs.Prelude.{false, ◌<◌, ◌≤◌, length};
 ghost use Rattle.rules.specs.Model.{blue, red};
 ghost use Rattle.rules.specs.Staircase.{change_if};
-ghost use Rattle.model.specs.Layout.{schedule_of, last_start};
+ghost use Rattle.model.specs.Layout.{last_start};
+ghost use Rattle.model.specs.Jobs.{schedule_of};
 ghost use Rattle.model.specs.Jobs.{instance_in};
 ghost use Rattle.staircase.specs.Stairs.{Pending, Made};
 ghost use Rattle.placement.specs.Memory.{SizesOf, moves_of, own_of, changes_in};
@@ -48,7 +49,7 @@ fn move_in(
     trial: Trial,
     k: usize,
 )
-    requires k_lt_files { k < job.now.shape.files }
+    requires k_lt_files { k < length job.now.files.now }
     requires pending { Pending (moves_of job.now schedule.now trial k 1) staircase.old }
     ensures { Made (moves_of job.now schedule.now trial k 1) staircase.old staircase.new }
 {
@@ -62,9 +63,9 @@ fn move_in(
 
 // The staircase with the task's crossing files moved in, each from its own move's start on.
 fn move_all_in(links: &Links, schedule: &layout::Schedule, staircase: &mut Staircase, trial: Trial)
-    requires i_lt_tasks { trial.task < links.now.job.shape.tasks }
-    requires pending { Pending (moves_of links.now.job schedule.now trial 0 links.now.job.shape.files) staircase.old }
-    ensures { Made (moves_of links.now.job schedule.now trial 0 links.now.job.shape.files) staircase.old staircase.new }
+    requires i_lt_tasks { trial.task < length links.now.job.tasks.now }
+    requires pending { Pending (moves_of links.now.job schedule.now trial 0 (length links.now.job.files.now)) staircase.old }
+    ensures { Made (moves_of links.now.job schedule.now trial 0 (length links.now.job.files.now)) staircase.old staircase.new }
 {
     let mut at = links.first(End::Reader, trial.task);
     while let Some(k) = at {
@@ -76,8 +77,8 @@ fn move_all_in(links: &Links, schedule: &layout::Schedule, staircase: &mut Stair
 // The staircase of the task's own memory with the task placed. Its crossing files move in; what it makes and its working memory are
 // there from its start on; what it reads and its working memory go at its release.
 fn occupy(links: &Links, schedule: &layout::Schedule, staircase: &mut Staircase, placing: Placing)
-    requires trial { (placing.trial.task < links.now.job.shape.tasks) × (placing.trial.start ≤ last_start) }
-    requires sizes_of { SizesOf (instance_in links.now.job) (schedule_of links.now.job.shape schedule.now) placing.trial placing.sizes }
+    requires trial { (placing.trial.task < length links.now.job.tasks.now) × (placing.trial.start ≤ last_start) }
+    requires sizes_of { SizesOf (instance_in links.now.job) (schedule_of links.now.job schedule.now) placing.trial placing.sizes }
     requires pending { Pending (own_of links.now.job schedule.now placing.trial) staircase.old }
     ensures { Made (own_of links.now.job schedule.now placing.trial) staircase.old staircase.new }
 {
@@ -104,8 +105,8 @@ pub fn both_memories(
     stairs: &mut ByColour<Staircase>,
     placing: Placing,
 )
-    requires trial { (placing.trial.task < links.now.job.shape.tasks) × (placing.trial.start ≤ last_start) }
-    requires sizes_of { SizesOf (instance_in links.now.job) (schedule_of links.now.job.shape schedule.now) placing.trial placing.sizes }
+    requires trial { (placing.trial.task < length links.now.job.tasks.now) × (placing.trial.start ≤ last_start) }
+    requires sizes_of { SizesOf (instance_in links.now.job) (schedule_of links.now.job schedule.now) placing.trial placing.sizes }
     requires pending { Pending (changes_in blue links.now.job schedule.now placing.trial) stairs.old.blue }
     requires pending_2 { Pending (changes_in red links.now.job schedule.now placing.trial) stairs.old.red }
     ensures made { Made (changes_in blue links.now.job schedule.now placing.trial) stairs.old.blue stairs.new.blue }

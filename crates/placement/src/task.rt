@@ -1,11 +1,12 @@
 // One task placed.
-ghost use Rattle.std.specs.Prelude.{◌≡◌, ◌<◌, ◌≤◌};
+ghost use Rattle.std.specs.Prelude.{◌≡◌, ◌<◌, ◌≤◌, length};
 ghost use Rattle.rules.specs.Model.{blue, red};
 ghost use Rattle.rules.specs.Promises.{WellFormed, Trial as IsTrial};
 ghost use Rattle.rules.specs.Scheduling.{aware, processor_start, finish_on, assign as rules-assign};
 ghost use Rattle.rules.specs.Staircase.{Placed};
 ghost use Rattle.model.specs.Colours.{as_colour};
-ghost use Rattle.model.specs.Layout.{WholeSchedule, schedule_of, partial_of, last_start, last_tick};
+ghost use Rattle.model.specs.Layout.{WholeSchedule, last_start, last_tick};
+ghost use Rattle.model.specs.Jobs.{schedule_of, partial_of};
 ghost use Rattle.model.specs.Jobs.{instance_in};
 ghost use Rattle.staircase.specs.Stairs.{HoldsStairs};
 ghost use Rattle.placement.specs.Memory.{SizesOf};
@@ -23,19 +24,19 @@ use staircase::Staircase;
 // The trial's task in the timetable: the moves, the run and the last finish of its processor.
 fn assign(links: &Links, schedule: &mut layout::Schedule, finishes: &mut Finishes, trial: Trial)
     requires schedule_len { WholeSchedule schedule.old }
-    requires i_lt_tasks { (trial.task < links.now.job.shape.tasks) × (trial.start ≤ last_start) }
-    requires colour_bound { processor_start (instance_in links.now.job) (partial_of links.now.job.shape schedule.old finishes.old) (as_colour trial.colour)
+    requires i_lt_tasks { (trial.task < length links.now.job.tasks.now) × (trial.start ≤ last_start) }
+    requires colour_bound { processor_start (instance_in links.now.job) (partial_of links.now.job schedule.old finishes.old) (as_colour trial.colour)
         ≤ trial.start }
     requires finish_bound { finish_on (instance_in links.now.job) trial.task (as_colour trial.colour) trial.start ≤ last_tick }
     ensures schedule_len_2 { WholeSchedule schedule.new }
-    ensures finishes_after { partial_of links.now.job.shape schedule.new finishes.new ≡
-        rules-assign (instance_in links.now.job) (partial_of links.now.job.shape schedule.old finishes.old)
+    ensures finishes_after { partial_of links.now.job schedule.new finishes.new ≡
+        rules-assign (instance_in links.now.job) (partial_of links.now.job schedule.old finishes.old)
         trial.task (as_colour trial.colour) trial.start }
 {
     set_moves(links, schedule, trial);
     let p = chosen_processor(&links.job, finishes, trial.colour, trial.start).unwrap();
     let slot = slot_in(&links.job, trial.colour, p);
-    layout::set_run(schedule, trial.task, slot as u64 + 1, trial.start);
+    schedule.set_run(trial.task, slot as u64 + 1, trial.start);
     let finish = trial.start + links.job.run_time(trial.task, trial.colour);
     finishes.set(slot, finish);
 }
@@ -52,21 +53,21 @@ pub fn place(
 )
     requires well_formed { WellFormed (instance_in links.now.job) }
     requires schedule_len { WholeSchedule schedule.old }
-    requires placed { Placed (instance_in links.now.job) (partial_of links.now.job.shape schedule.old finishes.old) }
-    requires trial { IsTrial aware (instance_in links.now.job) (partial_of links.now.job.shape schedule.old finishes.old)
+    requires placed { Placed (instance_in links.now.job) (partial_of links.now.job schedule.old finishes.old) }
+    requires trial { IsTrial aware (instance_in links.now.job) (partial_of links.now.job schedule.old finishes.old)
         trial.task (as_colour trial.colour) trial.start × (trial.start ≤ last_start) }
-    requires sizes_of { SizesOf (instance_in links.now.job) (schedule_of links.now.job.shape schedule.old) trial sizes }
-    requires holds_stairs { HoldsStairs (instance_in links.now.job) (schedule_of links.now.job.shape schedule.old) blue stairs.old.blue }
-    requires holds_stairs_2 { HoldsStairs (instance_in links.now.job) (schedule_of links.now.job.shape schedule.old) red stairs.old.red }
+    requires sizes_of { SizesOf (instance_in links.now.job) (schedule_of links.now.job schedule.old) trial sizes }
+    requires holds_stairs { HoldsStairs (instance_in links.now.job) (schedule_of links.now.job schedule.old) blue stairs.old.blue }
+    requires holds_stairs_2 { HoldsStairs (instance_in links.now.job) (schedule_of links.now.job schedule.old) red stairs.old.red }
     ensures schedule_len_2 { WholeSchedule schedule.new }
-    ensures finishes_after { partial_of links.now.job.shape schedule.new finishes.new ≡
-        rules-assign (instance_in links.now.job) (partial_of links.now.job.shape schedule.old finishes.old)
+    ensures finishes_after { partial_of links.now.job schedule.new finishes.new ≡
+        rules-assign (instance_in links.now.job) (partial_of links.now.job schedule.old finishes.old)
         trial.task (as_colour trial.colour) trial.start }
     ensures holds_stairs_3 { HoldsStairs (instance_in links.now.job)
-        (rules-assign (instance_in links.now.job) (partial_of links.now.job.shape schedule.old finishes.old)
+        (rules-assign (instance_in links.now.job) (partial_of links.now.job schedule.old finishes.old)
         trial.task (as_colour trial.colour) trial.start).schedule blue stairs.new.blue }
     ensures holds_stairs_4 { HoldsStairs (instance_in links.now.job)
-        (rules-assign (instance_in links.now.job) (partial_of links.now.job.shape schedule.old finishes.old)
+        (rules-assign (instance_in links.now.job) (partial_of links.now.job schedule.old finishes.old)
         trial.task (as_colour trial.colour) trial.start).schedule red stairs.new.red }
 {
     both_memories(links, schedule, stairs, Placing { trial, sizes });

@@ -7,7 +7,7 @@ ghost use Rattle.rules.specs.Promises.{WellFormed};
 ghost use Rattle.rules.specs.Validity.{true_claim};
 ghost use Rattle.model.specs.Claims.{as_claim};
 ghost use Rattle.model.specs.Jobs.{instance_in};
-ghost use Rattle.model.specs.Layout.{schedule_of};
+ghost use Rattle.model.specs.Jobs.{schedule_of};
 ghost use Rattle.planner.specs.Outcomes.{as_planner};
 ghost use Rattle.plan_text.specs.Answers.{number_of, place_of, answer_of, as_answer};
 
@@ -41,9 +41,9 @@ pub fn write_plan(
     claim: Claim,
     out: &mut [u8],
 ) -> Result<usize, Refusal>
-    requires { as_claim claim ≡ true_claim (instance_in job.now) (schedule_of job.now.shape schedule.now) }
+    requires { as_claim claim ≡ true_claim (instance_in job.now) (schedule_of job.now schedule.now) }
     ensures { (trials : ℕ) → answer_of result trials out.new ≡
-        written (plan_text (instance_in job.now) (schedule_of job.now.shape schedule.now)) out.old trials }
+        written (plan_text (instance_in job.now) (schedule_of job.now schedule.now)) out.old trials }
 {
     let size = schedule::schedule_size(job, schedule, claim);
     if out.len() < size {

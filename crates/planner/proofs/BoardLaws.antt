@@ -1,4 +1,5 @@
 -- A planner's own board: what it plans there is what it plans on the sheet's board.
+use Rattle.model.specs.Layout.{instance_of}
 use Prim.Native.Nat.{ℕ}
 use mathlib.Core.Path.{◌≡◌, refl, sym, ap, ◌∙◌}
 use native.Mathlib.Omega.{arith}
@@ -9,8 +10,8 @@ use Rattle.rules.specs.Scheduling.{Memory, aware, plain, Planner, heft, min_min,
 use Rattle.rules.specs.StairsPromises.{loosened}
 use Rattle.rules.specs.Validity.{true_claim}
 use Rattle.rules.proofs.LoosenedLaws.{plain_loosened, loosened_ample, loosened_claim}
-use Rattle.model.specs.declared.layout.Shape.{Shape}
-use Rattle.model.specs.Layout.{Job, Entries, instance_from, schedule_from}
+use Rattle.model.specs.declared.job.Job.{Job}
+use Rattle.model.specs.Jobs.{instance_in}
 use Rattle.planner.specs.declared.Outcome.{Outcome}
 use Rattle.planner.specs.declared.Stuck.{Stuck}
 use Rattle.std.specs.Prelude.{Result, Ok, Err, IfOk}
@@ -19,68 +20,57 @@ use Rattle.model.specs.Claims.{as_claim}
 use Rattle.planner.specs.Outcomes.{as_outcome, Claims}
 use Rattle.planner.specs.Boards.{board_by, Suited}
 
-abbrev own_shape : Memory → Shape → Shape
-own_shape m b = record { tasks = b.tasks; files = b.files; board = board_by m b.board }
-
-module _ (b : Shape) (J : Job) where
+module _ (j : Job) where
   abbrev I : Instance
-  I = instance_from b J
+  I = instance_in j
 
-  own-loosened : instance_from (own_shape plain b) J ≡ loosened I
-  unfolding instance_from loosened
+  -- the job's instance on that board
+  abbrev on : Memory → Instance
+  on m = instance_of (board_by m j.board) j.tasks.now j.files.now
+
+  own-loosened : on plain ≡ loosened I
+  unfolding instance_of loosened
   own-loosened = refl
 
-  own-well : (m : Memory) → WellFormed I → WellFormed (instance_from (own_shape m b) J) × (m ≡ plain → Ample (instance_from (own_shape m b) J))
+  own-well : (m : Memory) → WellFormed I → WellFormed (on m) × (m ≡ plain → Ample (on m))
   own-well aware W = (W, λ e. absurd (never e))
     where
       never : aware ≡ plain → ⊥
       never e = let z : ◌≡◌ {A = ℕ} 0 1 = cc in omega arith
   own-well plain W = let a = loosened_ample I W in rw own-loosened (a.0, λ _. a.1)
 
-  own-outcome : (R : Planner) → outcome R (instance_from (own_shape (memory_of R) b) J) ≡ outcome R I
+  own-outcome : (R : Planner) → outcome R (on (memory_of R)) ≡ outcome R I
   own-outcome (heft aware) = refl
   own-outcome (heft plain) = ap (outcome (heft plain)) own-loosened ∙ plain_loosened (heft plain) refl I
   own-outcome (min_min aware) = refl
   own-outcome (min_min plain) = ap (outcome (min_min plain)) own-loosened ∙ plain_loosened (min_min plain) refl I
 
-  own-claim : (m : Memory) (P : Schedule) → true_claim (instance_from (own_shape m b) J) P ≡ true_claim I P
+  own-claim : (m : Memory) (P : Schedule) → true_claim (on m) P ≡ true_claim I P
   own-claim aware P = refl
   own-claim plain P = ap (λ K. true_claim K P) own-loosened ∙ loosened_claim I P
 
-own-schedule : (m : Memory) (b : Shape) (L : Entries) → schedule_from (own_shape m b) L ≡ schedule_from b L
-unfolding schedule_from
-own-schedule m b L = refl
-
 -- ---- in the words of `run`
 
-module _ (R : Planner) (b : Shape) (J : Job) {board : Board} {m : Memory} (e : m ≡ memory_of R) (g : board ≡ board_by m b.board) where
-  abbrev own : Shape
-  own = record { tasks = b.tasks; files = b.files; board = board }
+module _ (R : Planner) (j : Job) {board : Board} {m : Memory} (e : m ≡ memory_of R) (g : board ≡ board_by m j.board) where
+  abbrev own : Instance
+  own = instance_of board j.tasks.now j.files.now
 
-  same_shape : own ≡ own_shape (memory_of R) b
-  same_shape = rw (g, e)
+  same : own ≡ on j (memory_of R)
+  same = ap (λ b. instance_of b j.tasks.now j.files.now) (g ∙ ap (λ m. board_by m j.board) e)
 
-  pub own-asks : WellFormed (instance_from b J) → WellFormed (instance_from own J) × Suited R (instance_from own J)
-  own-asks W = rw same_shape (own-well b J (memory_of R) W)
+  pub own-asks : WellFormed (instance_in j) → WellFormed own × Suited R own
+  own-asks W = rw same (own-well j (memory_of R) W)
 
-  module _ (L : Entries) (r : Outcome) where
-    pub own-ends : as_outcome r (schedule_from own L) ≡ outcome R (instance_from own J) → as_outcome r (schedule_from b L) ≡ outcome R (instance_from b J)
-    own-ends q =
-        let q' : as_outcome r (schedule_from (own_shape (memory_of R) b) L) ≡ outcome R (instance_from (own_shape (memory_of R) b) J) = rw same_shape at q in
-        let s : schedule_from (own_shape (memory_of R) b) L ≡ schedule_from b L = own-schedule (memory_of R) b L in
-        ap (as_outcome r) (sym s) ∙ q' ∙ own-outcome b J R
+  module _ (P : Schedule) (r : Outcome) where
+    pub own-ends : as_outcome r P ≡ outcome R own → as_outcome r P ≡ outcome R (instance_in j)
+    own-ends q = q ∙ ap (outcome R) same ∙ own-outcome j R
 
-  pub own-claims : (L : Entries) (r : Outcome) → Claims (instance_from own J) (schedule_from own L) r → Claims (instance_from b J) (schedule_from b L) r
-  own-claims L r c = by_end r.claim c
-    where
-      s : schedule_from own L ≡ schedule_from b L
-      s = ap (λ x. schedule_from x L) same_shape ∙ own-schedule (memory_of R) b L
+    pub own-claims : Claims own P r → Claims (instance_in j) P r
+    own-claims c = by_end r.claim c
+      where
+        i : true_claim own P ≡ true_claim (instance_in j) P
+        i = ap (λ K. true_claim K P) same ∙ own-claim j (memory_of R) P
 
-      i : true_claim (instance_from own J) (schedule_from own L) ≡ true_claim (instance_from b J) (schedule_from b L)
-      i = ap (λ x. true_claim (instance_from x J) (schedule_from own L)) same_shape ∙ own-claim b J (memory_of R) (schedule_from own L)
-          ∙ ap (true_claim (instance_from b J)) s
-
-      by_end : (x : Result Claim Stuck) → IfOk x (λ claim. as_claim claim ≡ true_claim (instance_from own J) (schedule_from own L))
-          → IfOk x (λ claim. as_claim claim ≡ true_claim (instance_from b J) (schedule_from b L))
-      by_end (Ok claim) h = h ∙ i
-      by_end (Err stuck) h = tt
+        by_end : (x : Result Claim Stuck) → IfOk x (λ claim. as_claim claim ≡ true_claim own P) → IfOk x (λ claim. as_claim claim ≡ true_claim (instance_in j) P)
+        by_end (Ok claim) h = h ∙ i
+        by_end (Err stuck) h = tt

@@ -1,5 +1,6 @@
 -- The planner's state between two rounds, with `placed` tasks placed: what is kept beside the partial schedule, that the schedule is sound,
 -- and that the rule's outcome is what the rounds that are left make of it.
+use lib.ListN.{length}
 use Prim.Native.Nat.{ℕ, suc, ◌+◌, ◌*◌, ◌-◌, ◌≤◌, ◌<◌}
 use mathlib.Core.List.{List}
 use mathlib.Core.Path.{◌≡◌, refl, sym, ap, ◌∙◌}
@@ -18,12 +19,13 @@ use Rattle.rules.proofs.SoundLaws.{Sound, stride, assign-sound, empty-sound, mov
 use Rattle.rules.proofs.StairsLaws.{placed-sound}
 use Rattle.rules.proofs.LoosenedLaws.{aware-trial}
 use Rattle.rules.proofs.TurnLaws.{rounds-stuck, rounds-place, rounds-done, outcome-is}
-use Rattle.model.specs.declared.layout.Shape.{Shape}
 use Rattle.model.specs.declared.colour.Colour.{Colour}
 use Rattle.model.specs.declared.colour.Colour.TheVariants.{Blue, Red}
 use Rattle.model.specs.Colours.{as_colour}
-use Rattle.model.specs.Layout.{Job, Entries, instance_from, schedule_from, partial_from, Bounds}
-use Rattle.model.proofs.LayoutLaws.{task-count, file-count, limit-of, run-at, move-at, job-bounds}
+use Rattle.model.specs.declared.job.Job.{Job}
+use Rattle.model.specs.Layout.{Entries, ScheduleBounds}
+use Rattle.model.specs.Jobs.{instance_in, schedule_by, partial_by}
+use Rattle.model.proofs.JobLaws.{tasks-in, files-in, limit-in, run-in, move-in}
 use Rattle.std.specs.Prelude.{Option, None, Some}
 use Rattle.rules.specs.Staircase.{Step}
 use Rattle.model.specs.declared.colour.ByColour.{ByColour}
@@ -39,11 +41,11 @@ use Rattle.planner.specs.Outcomes.{FreeWithin}
 use Rattle.planner.specs.Boards.{Suited}
 use Rattle.planner.proofs.ClaimLaws.{holds-one, free-first}
 
-pub record Planning (R : Planner) (b : Shape) (J : Job) (L : Entries) (last : List ℕ) (table : Needs) (stairs : ByColour (List Step)) (placed trials : ℕ) : Type 0 where
-  pub most : placed ≤ b.tasks
-  pub sound : Sound (instance_from b J) placed (partial_from b L last)
-  pub kept : Kept (instance_from b J) (partial_from b L last) table stairs
-  pub rest : outcome R (instance_from b J) ≡ rounds R (instance_from b J) (b.tasks - placed) (partial_from b L last) trials
+pub record Planning (R : Planner) (j : Job) (L : Entries) (last : List ℕ) (table : Needs) (stairs : ByColour (List Step)) (placed trials : ℕ) : Type 0 where
+  pub most : placed ≤ (length j.tasks.now)
+  pub sound : Sound (instance_in j) placed (partial_by j L last)
+  pub kept : Kept (instance_in j) (partial_by j L last) table stairs
+  pub rest : outcome R (instance_in j) ≡ rounds R (instance_in j) ((length j.tasks.now) - placed) (partial_by j L last) trials
   pub counted : trials ≤ 2 * max_tasks * placed
 
 -- a trial of a planner that goes by its own board is one of a memory-aware planner
@@ -53,48 +55,45 @@ suited-trial plain I W a Q i c s t = aware-trial I W (a refl) Q plain i c s t
 
 -- ---- what follows from a sound schedule of few tasks
 
-module _ (b : Shape) (J : Job) (W : WellFormed (instance_from b J)) (L : Entries) (last : List ℕ) {placed : ℕ}
-    (S : Sound (instance_from b J) placed (partial_from b L last)) (most : placed ≤ b.tasks) where
+module _ (j : Job) (W : WellFormed (instance_in j)) (L : Entries) (last : List ℕ) {placed : ℕ}
+    (S : Sound (instance_in j) placed (partial_by j L last)) (most : placed ≤ (length j.tasks.now)) where
   few : placed * stride ≤ ticks.most
-  few = omega (arith, (job-bounds b J W).tasks)
+  few = omega (arith, j.in_bounds.tasks)
 
-  pub sound-bounds : Bounds b J L
+  pub sound-bounds : ScheduleBounds (length j.tasks.now) (length j.files.now) L
   sound-bounds = record {
-    job = job-bounds b J W;
-    schedule = record {
-      start = λ i h. omega (arith, ap (λ r. r.start) (run-at b L i h), S.start_bound i, few);
-      move_start = λ k h. omega (arith, move-at b L k h, move_bound (instance_from b J) placed (partial_from b L last) S k (omega (arith, file-count b J)), few);
-    };
+      start = λ i h. omega (arith, ap (λ r. r.start) (run-in j L i h), S.start_bound i, few);
+      move_start = λ k h. omega (arith, move-in j L k h, move_bound (instance_in j) placed (partial_by j L last) S k (omega (arith, files-in j)), few);
   }
 
-  pub sound-ticks : (c : RulesColour) {ss : List Step} → HoldsStairs (instance_from b J) (schedule_from b L) c ss → TicksWithin ss
+  pub sound-ticks : (c : RulesColour) {ss : List Step} → HoldsStairs (instance_in j) (schedule_by j L) c ss → TicksWithin ss
   sound-ticks c H = record {
-    last = λ k l. omega (arith, holds-ticks H k l, horizon-bound (instance_from b J) W placed (partial_from b L last) S c, few);
+    last = λ k l. omega (arith, holds-ticks H k l, horizon-bound (instance_in j) W placed (partial_by j L last) S c, few);
   }
 
 -- the schedule that placings lead to is sound, and has no more tasks placed than there are
-pub placed-bounds : (b : Shape) (J : Job) → WellFormed (instance_from b J) → (L : Entries) (last : List ℕ) → Placed (instance_from b J) (partial_from b L last) → Bounds b J L
-placed-bounds b J W L last p =
-    let r = placed-sound (instance_from b J) W p in
-    sound-bounds b J W L last r.1 (omega (arith, r.1.count, count-waits (instance_from b J) (schedule_from b L), task-count b J))
+pub placed-bounds : (j : Job) → WellFormed (instance_in j) → (L : Entries) (last : List ℕ) → Placed (instance_in j) (partial_by j L last) → ScheduleBounds (length j.tasks.now) (length j.files.now) L
+placed-bounds j W L last p =
+    let r = placed-sound (instance_in j) W p in
+    sound-bounds j W L last r.1 (omega (arith, r.1.count, count-waits (instance_in j) (schedule_by j L), tasks-in j))
 
-pub chosen-bounds : (b : Shape) {o : Option Trial} {t : Trial} → o ≡ Some t → ChoiceBounds b o → TrialBounds b t
-chosen-bounds b e h = rw e at h
+pub chosen-bounds : (n : ℕ) {o : Option Trial} {t : Trial} → o ≡ Some t → ChoiceBounds n o → TrialBounds n t
+chosen-bounds n e h = rw e at h
 
 -- nothing placed
-pub empty-bounds : (b : Shape) (J : Job) → WellFormed (instance_from b J) → (L : Entries) (last : List ℕ) → partial_from b L last ≡ empty (instance_from b J) → Bounds b J L
-empty-bounds b J W L last e = sound-bounds b J W L last {placed = 0} (rw e (empty-sound (instance_from b J))) (omega arith)
+pub empty-bounds : (j : Job) → WellFormed (instance_in j) → (L : Entries) (last : List ℕ) → partial_by j L last ≡ empty (instance_in j) → ScheduleBounds (length j.tasks.now) (length j.files.now) L
+empty-bounds j W L last e = sound-bounds j W L last {placed = 0} (rw e (empty-sound (instance_in j))) (omega arith)
 
 -- ---- the rounds
 
-module _ (R : Planner) (b : Shape) (J : Job) (W : WellFormed (instance_from b J)) (A : Suited R (instance_from b J)) where
+module _ (R : Planner) (j : Job) (W : WellFormed (instance_in j)) (A : Suited R (instance_in j)) where
   abbrev I : Instance
-  I = instance_from b J
+  I = instance_in j
 
-  pub planning-start : (L : Entries) (last : List ℕ) (table : Needs) {stairs : ByColour (List Step)} → partial_from b L last ≡ empty I
-      → Right I (schedule_from b L) table
+  pub planning-start : (L : Entries) (last : List ℕ) (table : Needs) {stairs : ByColour (List Step)} → partial_by j L last ≡ empty I
+      → Right I (schedule_by j L) table
       → HoldsStairs I (empty I).schedule blue stairs.blue → HoldsStairs I (empty I).schedule red stairs.red
-      → Planning R b J L last table stairs 0 0
+      → Planning R j L last table stairs 0 0
   planning-start L last table e needs hb hr = record {
     most = omega arith;
     sound = rw e (empty-sound I);
@@ -105,29 +104,29 @@ module _ (R : Planner) (b : Shape) (J : Job) (W : WellFormed (instance_from b J)
       blue = rw (ap (λ q. q.schedule) e) hb;
       red = rw (ap (λ q. q.schedule) e) hr;
     };
-    rest = outcome-is R I ∙ rw (task-count b J, e, none-placed);
+    rest = outcome-is R I ∙ rw (tasks-in j, e, none-placed);
     counted = omega arith;
   }
     where
-      none-placed : b.tasks - 0 ≡ b.tasks
+      none-placed : (length j.tasks.now) - 0 ≡ (length j.tasks.now)
       none-placed = omega arith
 
-  module _ {L : Entries} {last : List ℕ} {table : Needs} {stairs : ByColour (List Step)} {placed trials : ℕ} (p : Planning R b J L last table stairs placed trials) where
+  module _ {L : Entries} {last : List ℕ} {table : Needs} {stairs : ByColour (List Step)} {placed trials : ℕ} (p : Planning R j L last table stairs placed trials) where
     abbrev Q : Partial
-    Q = partial_from b L last
+    Q = partial_by j L last
 
     -- ---- what a round asks
 
     pub planning-stairs : StairsBounds stairs
     planning-stairs = record {
-      blue = sound-ticks b J W L last p.sound p.most blue p.kept.blue;
-      red = sound-ticks b J W L last p.sound p.most red p.kept.red;
+      blue = sound-ticks j W L last p.sound p.most blue p.kept.blue;
+      red = sound-ticks j W L last p.sound p.most red p.kept.red;
     }
 
     -- ---- after a round, with a task left
 
-    module _ (more : placed < b.tasks) where
-      one_more : b.tasks - placed ≡ suc (b.tasks - (placed + 1))
+    module _ (more : placed < (length j.tasks.now)) where
+      one_more : (length j.tasks.now) - placed ≡ suc ((length j.tasks.now) - (placed + 1))
       one_more = omega arith
 
       module _ (x : Round) (made : as_round x ≡ round_of R I Q) where
@@ -140,9 +139,9 @@ module _ (R : Planner) (b : Shape) (J : Job) (W : WellFormed (instance_from b J)
         pub planning-stuck : x.choice ≡ None → stuck placed (trials + x.trials) ≡ outcome R I
         planning-stuck none =
             let e : (round_of R I Q).choice ≡ nothing = sym choice-is ∙ rw none in
-            let left = b.tasks - (placed + 1) in
-            let count : task_count I - suc left ≡ placed = omega (arith, task-count b J) in
-            let halt : rounds R I (b.tasks - placed) Q trials ≡ stuck placed (trials + x.trials) =
+            let left = (length j.tasks.now) - (placed + 1) in
+            let count : task_count I - suc left ≡ placed = omega (arith, tasks-in j) in
+            let halt : rounds R I ((length j.tasks.now) - placed) Q trials ≡ stuck placed (trials + x.trials) =
             rw (one_more, trials-are) (rounds-stuck R I left Q trials e ∙ ap (λ k. stuck k (trials + (round_of R I Q).trials)) count) in
             sym (p.rest ∙ halt)
 
@@ -165,29 +164,29 @@ module _ (R : Planner) (b : Shape) (J : Job) (W : WellFormed (instance_from b J)
           pub planning-trial : IsTrial aware I Q i (as_colour colour) s
           planning-trial = suited-trial (memory_of R) I W A Q i (as_colour colour) s trial
 
-          pub planning-next : {L' : Entries} {last' : List ℕ} {table' : Needs} {stairs' : ByColour (List Step)} → partial_from b L' last' ≡ assign I Q i (as_colour colour) s
-              → Kept I (partial_from b L' last') table' stairs' → x.trials ≤ 2 * b.tasks
-              → Planning R b J L' last' table' stairs' (placed + 1) (trials + x.trials)
+          pub planning-next : {L' : Entries} {last' : List ℕ} {table' : Needs} {stairs' : ByColour (List Step)} → partial_by j L' last' ≡ assign I Q i (as_colour colour) s
+              → Kept I (partial_by j L' last') table' stairs' → x.trials ≤ 2 * (length j.tasks.now)
+              → Planning R j L' last' table' stairs' (placed + 1) (trials + x.trials)
           planning-next q kept t = record {
             most = omega arith;
             sound = rw (add-one placed, q) (assign-sound I W placed Q p.sound (memory_of R) i (as_colour colour) s trial);
             kept = kept;
-            rest = p.rest ∙ rw (one_more, q, trials-are) (rounds-place R I (b.tasks - (placed + 1)) Q trials i (as_colour colour) s chosen_is);
-            counted = omega (arith, p.counted, (job-bounds b J W).tasks);
+            rest = p.rest ∙ rw (one_more, q, trials-are) (rounds-place R I ((length j.tasks.now) - (placed + 1)) Q trials i (as_colour colour) s chosen_is);
+            counted = omega (arith, p.counted, j.in_bounds.tasks);
           }
 
     -- ---- at the end
 
-    pub planning-done : b.tasks ≤ placed → complete (schedule_from b L) trials ≡ outcome R I
+    pub planning-done : (length j.tasks.now) ≤ placed → complete (schedule_by j L) trials ≡ outcome R I
     planning-done h =
-        let none : b.tasks - placed ≡ 0 = omega arith in
+        let none : (length j.tasks.now) - placed ≡ 0 = omega arith in
         sym (p.rest ∙ rw none (rounds-done R I Q trials))
 
-    pub planning-complete : b.tasks ≤ placed → Complete I (schedule_from b L)
-    planning-complete h = all-counted I (schedule_from b L) (omega (arith, p.sound.count, p.most, task-count b J))
+    pub planning-complete : (length j.tasks.now) ≤ placed → Complete I (schedule_by j L)
+    planning-complete h = all-counted I (schedule_by j L) (omega (arith, p.sound.count, p.most, tasks-in j))
 
-    pub planning-free : FreeWithin b.board.blue.limit stairs.blue × FreeWithin b.board.red.limit stairs.red
+    pub planning-free : FreeWithin j.board.blue.limit stairs.blue × FreeWithin j.board.red.limit stairs.red
     planning-free = (
-      record { one = holds-one W p.kept.blue; first = omega (arith, free-first W p.kept.blue, limit-of b J Blue) },
-      record { one = holds-one W p.kept.red; first = omega (arith, free-first W p.kept.red, limit-of b J Red) },
+      record { one = holds-one W p.kept.blue; first = omega (arith, free-first W p.kept.blue, limit-in j Blue) },
+      record { one = holds-one W p.kept.red; first = omega (arith, free-first W p.kept.red, limit-in j Red) },
     )

@@ -6,7 +6,8 @@ ghost use Rattle.rules.specs.Staircase.{least_free};
 ghost use Rattle.rules.specs.Validity.{Complete, true_claim};
 ghost use Rattle.model.specs.Claims.{as_claim};
 ghost use Rattle.model.specs.Jobs.{instance_in};
-ghost use Rattle.model.specs.Layout.{Entries, partial_from, schedule_from};
+ghost use Rattle.model.specs.Layout.{Entries};
+ghost use Rattle.model.specs.Jobs.{partial_by, schedule_by};
 ghost use Rattle.needs.specs.declared.table.Needs.{Needs};
 ghost use Rattle.starts.specs.Kept.{Kept};
 ghost use Rattle.planner.specs.Outcomes.{FreeWithin};
@@ -20,9 +21,9 @@ use staircase::Staircase;
 // The latest of the last finishes.
 fn latest_finish(job: &Job, finishes: &Finishes) -> u64
     ensures { (L : Entries) → result ≡
-        max_below (processor_count (instance_in job.now)) (λ p. get_or (partial_from job.now.shape L finishes.now).last_finish p 0) }
+        max_below (processor_count (instance_in job.now)) (λ p. get_or (partial_by job.now L finishes.now).last_finish p 0) }
 {
-    let board = job.shape.board;
+    let board = job.board;
     let mut most: u64 = 0;
     for p in 0..(board.blue.processors + board.red.processors) as usize {
         most = most.max(finishes.of(p));
@@ -40,15 +41,15 @@ fn peak(limit: u64, staircase: &Staircase) -> u64
 
 // What a complete schedule has to claim, from what is kept beside it.
 pub fn claim_from(job: &Job, finishes: &Finishes, stairs: &ByColour<Staircase>) -> Claim
-    requires { FreeWithin job.now.shape.board.blue.limit stairs.now.blue × FreeWithin job.now.shape.board.red.limit stairs.now.red }
+    requires { FreeWithin job.now.board.blue.limit stairs.now.blue × FreeWithin job.now.board.red.limit stairs.now.red }
     ensures { (L : Entries) (needs : Needs) →
-        Kept (instance_in job.now) (partial_from job.now.shape L finishes.now) needs stairs.now →
-        Complete (instance_in job.now) (schedule_from job.now.shape L) →
-        as_claim result ≡ true_claim (instance_in job.now) (schedule_from job.now.shape L) }
+        Kept (instance_in job.now) (partial_by job.now L finishes.now) needs stairs.now →
+        Complete (instance_in job.now) (schedule_by job.now L) →
+        as_claim result ≡ true_claim (instance_in job.now) (schedule_by job.now L) }
 {
     Claim {
         span: latest_finish(job, finishes),
-        blue_peak: peak(job.shape.board.blue.limit, &stairs.blue),
-        red_peak: peak(job.shape.board.red.limit, &stairs.red),
+        blue_peak: peak(job.board.blue.limit, &stairs.blue),
+        red_peak: peak(job.board.red.limit, &stairs.red),
     }
 }

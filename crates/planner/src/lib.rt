@@ -6,15 +6,15 @@ ghost use Rattle.rules.specs.Limits.{memory_limits};
 ghost use Rattle.rules.specs.Promises.{WellFormed};
 ghost use Rattle.rules.specs.Scheduling.{memory_of, outcome};
 ghost use Rattle.model.specs.Jobs.{instance_in};
-ghost use Rattle.model.specs.Layout.{unplaced, schedule_of};
+ghost use Rattle.model.specs.Layout.{unplaced};
+ghost use Rattle.model.specs.Jobs.{schedule_of};
 ghost use Rattle.starts.specs.Memories.{as_memory};
 ghost use Rattle.planner.specs.Outcomes.{as_planner, as_outcome, Claims};
 ghost use Rattle.planner.specs.Boards.{board_by};
 
 use model::claim::Claim;
 use model::job::Job;
-use model::layout;
-use model::layout::Shape;
+use model::layout::Schedule;
 use rounds::start;
 use rules::{Board, Side};
 use starts::memory::Memory;
@@ -76,20 +76,16 @@ fn board_by(memory: Memory, board: Board) -> Board
 }
 
 // The planner on a job: the rounds, from an empty schedule on.
-pub fn run(rule: Rule, job: &Job, schedule: &mut layout::Schedule) -> Outcome
+pub fn run(rule: Rule, job: &Job, schedule: &mut Schedule) -> Outcome
     requires well_formed { WellFormed (instance_in job.now) }
     requires schedule_value { schedule.old ≡ unplaced }
-    ensures schedule_after { as_outcome result (schedule_of job.now.shape schedule.new) ≡ outcome (as_planner rule) (instance_in job.now) }
-    ensures claims { Claims (instance_in job.now) (schedule_of job.now.shape schedule.new) result }
+    ensures schedule_after { as_outcome result (schedule_of job.now schedule.new) ≡ outcome (as_planner rule) (instance_in job.now) }
+    ensures claims { Claims (instance_in job.now) (schedule_of job.now schedule.new) result }
 {
-    let shape = Shape {
-        tasks: job.shape.tasks,
-        files: job.shape.files,
-        board: board_by(memory_of(rule), job.shape.board),
-    };
     let own = Job {
-        shape,
-        numbers: job.numbers,
+        board: board_by(memory_of(rule), job.board),
+        tasks: job.tasks,
+        files: job.files,
     };
     start(rule, &own, schedule)
 }

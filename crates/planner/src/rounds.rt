@@ -1,11 +1,12 @@
 // The rounds of a planner, and what is kept beside the partial schedule from one to the next.
-ghost use Rattle.std.specs.Prelude.{◌≡◌, ◌*◌, ◌≤◌};
+ghost use Rattle.std.specs.Prelude.{◌≡◌, ◌*◌, ◌≤◌, length};
 ghost use Rattle.rules.specs.Model.{task_count};
 ghost use Rattle.rules.specs.Promises.{WellFormed, Trial as IsTrial};
 ghost use Rattle.rules.specs.Scheduling.{aware, by_weight, round_of, assign, outcome};
 ghost use Rattle.model.specs.Colours.{as_colour};
 ghost use Rattle.model.specs.Jobs.{instance_in};
-ghost use Rattle.model.specs.Layout.{Entries, unplaced, WholeSchedule, schedule_of, partial_from, partial_of, last_start};
+ghost use Rattle.model.specs.Layout.{Entries, unplaced, WholeSchedule, last_start};
+ghost use Rattle.model.specs.Jobs.{schedule_of, partial_of, partial_by};
 ghost use Rattle.starts.specs.Kept.{Kept, StairsBounds};
 ghost use Rattle.selection.specs.Choices.{as_round, ChoiceBounds, OrderBounds};
 ghost use Rattle.planner.specs.Outcomes.{as_planner, as_outcome, Claims};
@@ -38,12 +39,12 @@ pub struct State {
 // One round of the planner; `order` is HEFT's list.
 fn round(rule: Rule, job: &Job, order: &[usize], state: &State) -> Round
     requires bounds { StairsBounds state.now.stairs }
-    requires order_bounds { OrderBounds job.now.shape order.now }
+    requires order_bounds { OrderBounds (length job.now.tasks.now) order.now }
     requires p_value { order.now ≡ by_weight (instance_in job.now) (task_count (instance_in job.now)) }
     ensures result_value { (L : Entries) →
-        Kept (instance_in job.now) (partial_from job.now.shape L state.now.finishes) state.now.needs state.now.stairs →
-        as_round result ≡ round_of (as_planner rule) (instance_in job.now) (partial_from job.now.shape L state.now.finishes) }
-    ensures choice_bounds { ChoiceBounds job.now.shape result.choice × (result.trials ≤ 2 * job.now.shape.tasks) }
+        Kept (instance_in job.now) (partial_by job.now L state.now.finishes) state.now.needs state.now.stairs →
+        as_round result ≡ round_of (as_planner rule) (instance_in job.now) (partial_by job.now L state.now.finishes) }
+    ensures choice_bounds { ChoiceBounds (length job.now.tasks.now) result.choice × (result.trials ≤ 2 * (length job.now.tasks.now)) }
 {
     let trials = Trials::new(
         memory_of(rule),
@@ -60,14 +61,14 @@ fn round(rule: Rule, job: &Job, order: &[usize], state: &State) -> Round
 
 // The trial's task placed at its earliest start, and all that is kept beside the schedule with it.
 fn place_task(links: &Links, schedule: &mut layout::Schedule, state: &mut State, trial: Trial)
-    requires kept { Kept (instance_in links.now.job) (partial_of links.now.job.shape schedule.old state.old.finishes) state.old.needs state.old.stairs }
+    requires kept { Kept (instance_in links.now.job) (partial_of links.now.job schedule.old state.old.finishes) state.old.needs state.old.stairs }
     requires start_bound { trial.start ≤ last_start }
-    requires trial { IsTrial aware (instance_in links.now.job) (partial_of links.now.job.shape schedule.old state.old.finishes)
+    requires trial { IsTrial aware (instance_in links.now.job) (partial_of links.now.job schedule.old state.old.finishes)
         trial.task (as_colour trial.colour) trial.start }
     requires schedule_len { WholeSchedule schedule.old }
-    ensures finishes_after { partial_of links.now.job.shape schedule.new state.new.finishes ≡
-        assign (instance_in links.now.job) (partial_of links.now.job.shape schedule.old state.old.finishes) trial.task (as_colour trial.colour) trial.start }
-    ensures kept_2 { Kept (instance_in links.now.job) (partial_of links.now.job.shape schedule.new state.new.finishes) state.new.needs state.new.stairs }
+    ensures finishes_after { partial_of links.now.job schedule.new state.new.finishes ≡
+        assign (instance_in links.now.job) (partial_of links.now.job schedule.old state.old.finishes) trial.task (as_colour trial.colour) trial.start }
+    ensures kept_2 { Kept (instance_in links.now.job) (partial_of links.now.job schedule.new state.new.finishes) state.new.needs state.new.stairs }
     ensures schedule_len_2 { WholeSchedule schedule.new }
 {
     let i = trial.task;
@@ -92,22 +93,22 @@ fn place_task(links: &Links, schedule: &mut layout::Schedule, state: &mut State,
 fn rounds(rule: Rule, links: &Links, order: &[usize], schedule: &mut layout::Schedule) -> Outcome
     requires well_formed { WellFormed (instance_in links.now.job) × Suited (as_planner rule) (instance_in links.now.job) }
     requires schedule_value { schedule.old ≡ unplaced }
-    requires order_bounds { OrderBounds links.now.job.shape order.now }
+    requires order_bounds { OrderBounds (length links.now.job.tasks.now) order.now }
     requires p_value { order.now ≡ by_weight (instance_in links.now.job) (task_count (instance_in links.now.job)) }
-    ensures schedule_after { as_outcome result (schedule_of links.now.job.shape schedule.new) ≡ outcome (as_planner rule) (instance_in links.now.job) }
-    ensures claims { Claims (instance_in links.now.job) (schedule_of links.now.job.shape schedule.new) result }
+    ensures schedule_after { as_outcome result (schedule_of links.now.job schedule.new) ≡ outcome (as_planner rule) (instance_in links.now.job) }
+    ensures claims { Claims (instance_in links.now.job) (schedule_of links.now.job schedule.new) result }
 {
     let mut state = State {
         finishes: Finishes::new(),
         needs: Needs::new(),
         stairs: ByColour {
-            blue: Staircase::new(links.job.shape.board.blue.limit),
-            red: Staircase::new(links.job.shape.board.red.limit),
+            blue: Staircase::new(links.job.board.blue.limit),
+            red: Staircase::new(links.job.board.red.limit),
         },
     };
     state.needs.fill(links, schedule);
     let mut trials: u64 = 0;
-    for placed in 0..links.job.shape.tasks {
+    for placed in 0..links.job.tasks.len() {
         let found = round(rule, &links.job, order, &state);
         trials += found.trials;
         let choice = found.choice;
@@ -131,8 +132,8 @@ fn rounds(rule: Rule, links: &Links, order: &[usize], schedule: &mut layout::Sch
 pub fn start(rule: Rule, job: &Job, schedule: &mut layout::Schedule) -> Outcome
     requires well_formed { WellFormed (instance_in job.now) × Suited (as_planner rule) (instance_in job.now) }
     requires schedule_value { schedule.old ≡ unplaced }
-    ensures schedule_after { as_outcome result (schedule_of job.now.shape schedule.new) ≡ outcome (as_planner rule) (instance_in job.now) }
-    ensures claims { Claims (instance_in job.now) (schedule_of job.now.shape schedule.new) result }
+    ensures schedule_after { as_outcome result (schedule_of job.now schedule.new) ≡ outcome (as_planner rule) (instance_in job.now) }
+    ensures claims { Claims (instance_in job.now) (schedule_of job.now schedule.new) result }
 {
     let links = Links::new(*job);
     let order = by_weight(&links);

@@ -13,8 +13,7 @@ use Rattle.rules.specs.Scheduling.{Memory, Partial, ready, Choice as Chosen, not
 use Rattle.rules.proofs.Tests.{clash}
 use Rattle.model.specs.declared.trial.Trial.{Trial}
 use Rattle.model.specs.Jobs.{instance_in}
-use Rattle.model.specs.Layout.{job_of}
-use Rattle.model.proofs.LayoutLaws.{task-count}
+use Rattle.model.proofs.JobLaws.{tasks-in}
 use Rattle.needs.specs.declared.table.Need.{Need}
 use Rattle.needs.specs.Tables.{need_at}
 use Rattle.starts.specs.Memories.{as_memory}
@@ -122,15 +121,15 @@ module _ (x : Trials) where
   abbrev I : Instance
   I = instance_in x.job
 
-  tasks : task_count I ≡ x.job.shape.tasks
-  tasks = task-count x.job.shape (job_of x.job.numbers.now)
+  tasks : task_count I ≡ (length x.job.tasks.now)
+  tasks = tasks-in x.job
 
   -- a ready task was tried on both colours
   abbrev pub TriedBoth : Option Trial → ℕ → Type 0
   TriedBoth found i = (Q : Partial) → TrialsOf Q x → ready I Q.schedule i ≡ true → as_choice found ≡ both_colours m I Q i
 
   -- the task's mark, from its need
-  stands : {Q : Partial} → TrialsOf Q x → {i : ℕ} → i < x.job.shape.tasks → {n : Need} → n ≡ need_at x.needs.now i → ready I Q.schedule i ≡ n.ready
+  stands : {Q : Partial} → TrialsOf Q x → {i : ℕ} → i < (length x.job.tasks.now) → {n : Need} → n ≡ need_at x.needs.now i → ready I Q.schedule i ≡ n.ready
   stands T {i} h r = sym (T.kept.needs.admitted i (omega (arith, tasks))).is_ready ∙ ap (λ (n : Need). n.ready) (sym r)
 
   -- ---- MINMIN
@@ -142,7 +141,7 @@ module _ (x : Trials) where
   pub passed_none : Passed None 0 0
   passed_none = record { round = λ Q T. sym (below-none m I Q) }
 
-  module _ {i trials : ℕ} {old : Option Trial} (p : Passed old trials i) (h : i < x.job.shape.tasks) {n : Need} (r : n ≡ need_at x.needs.now i) where
+  module _ {i trials : ℕ} {old : Option Trial} (p : Passed old trials i) (h : i < (length x.job.tasks.now)) {n : Need} (r : n ≡ need_at x.needs.now i) where
     pub passed-ready : n.ready ≡ true → (found : Option Trial) {new : Option Trial} → TriedBoth found i
         → as_choice new ≡ earlier I (as_choice old) (as_choice found) → Passed new (trials + 2) (i + 1)
     passed-ready t found o e = record {
@@ -154,7 +153,7 @@ module _ (x : Trials) where
     pub passed-waits : n.ready ≡ false → Passed old trials (i + 1)
     passed-waits t = record { round = λ Q T. p.round Q T ∙ sym (below-waits m I Q i (stands T h r ∙ t)) }
 
-  pub passed-all : {i trials : ℕ} {choice : Option Trial} → Passed choice trials i → i ≡ x.job.shape.tasks → (Q : Partial) → TrialsOf Q x
+  pub passed-all : {i trials : ℕ} {choice : Option Trial} → Passed choice trials i → i ≡ (length x.job.tasks.now) → (Q : Partial) → TrialsOf Q x
       → record { choice = as_choice choice; trials = trials } ≡ earliest_below m I Q (task_count I)
   passed-all p e Q T = p.round Q T ∙ ap (earliest_below m I Q) (e ∙ sym tasks)
 
@@ -175,7 +174,7 @@ module _ (x : Trials) where
     pub left_end : {i trials : ℕ} → LeftFor i trials → i ≡ length order → Found nothing trials
     left_end left e = λ Q T. left-none m I Q order (left Q T) e
 
-  module _ (order : List ℕ) {i : ℕ} (trials : ℕ) (h : i < length order) (left : LeftFor order i trials) (l : get_or order i 0 < x.job.shape.tasks) {n : Need}
+  module _ (order : List ℕ) {i : ℕ} (trials : ℕ) (h : i < length order) (left : LeftFor order i trials) (l : get_or order i 0 < (length x.job.tasks.now)) {n : Need}
       (r : n ≡ need_at x.needs.now (get_or order i 0)) where
     pub left-by : n.ready ≡ false → LeftFor order (i + 1) trials
     left-by t = λ Q T. left-waits m I Q order trials h (left Q T) (stands T l r ∙ t)

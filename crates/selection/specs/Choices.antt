@@ -2,7 +2,6 @@
 use Rattle.std.specs.Prelude.{ℕ, ◌≤◌, ◌<◌, Bool, true, false, List, ◌≡◌, length, get_or, Option, None, Some, IfSome}
 use Rattle.rules.specs.Model.{blue, red, Instance}
 use Rattle.rules.specs.Scheduling.{Partial, processor_start, Choice as Chosen, nothing, choose, Round as Made}
-use Rattle.model.specs.declared.layout.Shape.{Shape}
 use Rattle.model.specs.declared.colour.ByColour.{ByColour}
 use Rattle.model.specs.Colours.{as_colour}
 use Rattle.model.specs.Layout.{last_tick, last_start}
@@ -21,17 +20,17 @@ abbrev pub is_chosen : Chosen → Bool
 is_chosen nothing = false
 is_chosen (choose i c s) = true
 
--- a trial's task exists, and its start is no later than an earliest start can be
-abbrev pub TrialBounds : Shape → Trial → Type 0
-TrialBounds b t = (t.task < b.tasks) × (t.start ≤ last_start)
+-- a trial's task is one of n, and its start is no later than an earliest start can be
+abbrev pub TrialBounds : ℕ → Trial → Type 0
+TrialBounds n t = (t.task < n) × (t.start ≤ last_start)
 
-abbrev pub ChoiceBounds : Shape → Option Trial → Type 0
-ChoiceBounds b choice = IfSome choice (TrialBounds b)
+abbrev pub ChoiceBounds : ℕ → Option Trial → Type 0
+ChoiceBounds n choice = IfSome choice (TrialBounds n)
 
--- each of the tasks listed exists, and no more are listed than there are
-pub record OrderBounds (b : Shape) (order : List ℕ) : Type 0 where
-  pub count : length order ≤ b.tasks
-  pub exists : (p : ℕ) → p < length order → get_or order p 0 < b.tasks
+-- each of the tasks listed is one of n, and no more than n are listed
+pub record OrderBounds (n : ℕ) (order : List ℕ) : Type 0 where
+  pub count : length order ≤ n
+  pub exists : (p : ℕ) → p < length order → get_or order p 0 < n
 
 -- start 1 of each colour
 pub record IdleOf (I : Instance) (Q : Partial) (x : ByColour ℕ) : Type 0 where

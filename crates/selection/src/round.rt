@@ -11,7 +11,7 @@ pub struct Round {
 }
 
 impl Trials<'_> {
-    ghost use Rattle.std.specs.Prelude.{◌≡◌, ◌*◌, ◌≤◌};
+    ghost use Rattle.std.specs.Prelude.{◌≡◌, ◌*◌, ◌≤◌, length};
     ghost use Rattle.rules.specs.Model.{task_count};
     ghost use Rattle.rules.specs.Scheduling.{Partial, earliest_below, first_that_fits};
     ghost use Rattle.model.specs.Jobs.{instance_in};
@@ -23,11 +23,11 @@ impl Trials<'_> {
     pub fn earliest_round(&self) -> Round
         ensures result_value { (Q : Partial) → TrialsOf Q self.now →
             as_round result ≡ earliest_below (as_memory self.now.memory) (instance_in self.now.job) Q (task_count (instance_in self.now.job)) }
-        ensures choice_bounds { ChoiceBounds self.now.job.shape result.choice × (result.trials ≤ 2 * self.now.job.shape.tasks) }
+        ensures choice_bounds { ChoiceBounds (length self.now.job.tasks.now) result.choice × (result.trials ≤ 2 * (length self.now.job.tasks.now)) }
     {
         let mut choice = None;
         let mut trials: u64 = 0;
-        for i in 0..self.job.shape.tasks {
+        for i in 0..self.job.tasks.len() {
             if self.needs.of(i).ready {
                 let found = self.both_colours(i);
                 choice = earlier(&self.job, choice, found);
@@ -39,10 +39,10 @@ impl Trials<'_> {
 
     // HEFT's round: the first task in the order that is ready and fits in either colour.
     pub fn first_that_fits(&self, order: &[usize]) -> Round
-        requires { OrderBounds self.now.job.shape order.now }
+        requires { OrderBounds (length self.now.job.tasks.now) order.now }
         ensures result_value { (Q : Partial) → TrialsOf Q self.now →
             as_round result ≡ first_that_fits (as_memory self.now.memory) (instance_in self.now.job) Q order.now }
-        ensures choice_bounds { ChoiceBounds self.now.job.shape result.choice × (result.trials ≤ 2 * self.now.job.shape.tasks) }
+        ensures choice_bounds { ChoiceBounds (length self.now.job.tasks.now) result.choice × (result.trials ≤ 2 * (length self.now.job.tasks.now)) }
     {
         let mut trials: u64 = 0;
         for task in order {

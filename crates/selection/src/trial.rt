@@ -1,5 +1,5 @@
 // The finish of a trial, and the choice between two.
-ghost use Rattle.std.specs.Prelude.{◌≡◌, ◌≤◌};
+ghost use Rattle.std.specs.Prelude.{◌≡◌, ◌≤◌, length};
 ghost use Rattle.rules.specs.Scheduling.{finish_on, earlier as rules-earlier};
 ghost use Rattle.model.specs.Colours.{as_colour};
 ghost use Rattle.model.specs.Jobs.{instance_in};
@@ -11,7 +11,7 @@ use model::trial::Trial;
 
 // The finish of a trial.
 pub fn finish_of(job: &Job, trial: Trial) -> u64
-    requires { TrialBounds job.now.shape trial }
+    requires { TrialBounds (length job.now.tasks.now) trial }
     ensures value { result ≡ finish_on (instance_in job.now) trial.task (as_colour trial.colour) trial.start }
     ensures upper_bound { result ≤ latest_finish }
 {
@@ -20,9 +20,9 @@ pub fn finish_of(job: &Job, trial: Trial) -> u64
 
 // The choice with the earlier finish, ties to the first.
 pub fn earlier(job: &Job, a: Option<Trial>, b: Option<Trial>) -> Option<Trial>
-    requires { ChoiceBounds job.now.shape a × ChoiceBounds job.now.shape b }
+    requires { ChoiceBounds (length job.now.tasks.now) a × ChoiceBounds (length job.now.tasks.now) b }
     ensures result_value { as_choice result ≡ rules-earlier (instance_in job.now) (as_choice a) (as_choice b) }
-    ensures choice_bounds { ChoiceBounds job.now.shape result }
+    ensures choice_bounds { ChoiceBounds (length job.now.tasks.now) result }
 {
     let Some(first) = a else {
         return b;

@@ -1,7 +1,6 @@
 // What the trials of one round go by, and the trials of one task.
-ghost use Rattle.std.specs.Prelude.{◌≡◌, ◌<◌, ◌≤◌, IfSome};
+ghost use Rattle.std.specs.Prelude.{◌≡◌, ◌<◌, ◌≤◌, ℕ, IfSome, length};
 ghost use Rattle.rules.specs.Scheduling.{tried as rules-tried};
-ghost use Rattle.model.specs.declared.layout.Shape.{Shape};
 ghost use Rattle.model.specs.Colours.{as_colour};
 ghost use Rattle.model.specs.Layout.{last_start};
 ghost use Rattle.staircase.specs.Steps.{as_option};
@@ -34,7 +33,7 @@ pub struct Trials<'a> {
 fn tried(task: usize, colour: Colour, free: Option<u64>) -> Option<Trial>
     requires { IfSome free (λ t. t ≤ last_start) }
     ensures result_value { as_choice result ≡ rules-tried task (as_colour colour) (as_option free) }
-    ensures choice_bounds { (shape : Shape) → task < shape.tasks → ChoiceBounds shape result }
+    ensures choice_bounds { (n : ℕ) → task < n → ChoiceBounds n result }
 {
     let start = free?;
     Some(Trial {
@@ -48,7 +47,8 @@ impl Trials<'_> {
     ghost use Rattle.std.specs.Prelude.{true, ◌≡◌, ◌<◌};
     ghost use Rattle.rules.specs.Scheduling.{Partial, ready, both_colours};
     ghost use Rattle.model.specs.Jobs.{instance_in};
-    ghost use Rattle.model.specs.Layout.{Entries, partial_from};
+    ghost use Rattle.model.specs.Layout.{Entries};
+    ghost use Rattle.model.specs.Jobs.{partial_by};
     ghost use Rattle.starts.specs.Kept.{Kept, StairsBounds};
     ghost use Rattle.starts.specs.Memories.{as_memory};
     ghost use Rattle.selection.specs.Choices.{as_choice, ChoiceBounds};
@@ -65,8 +65,8 @@ impl Trials<'_> {
         requires { StairsBounds stairs.now }
         ensures same { (result.memory ≡ memory) × (result.job ≡ job.entry) }
         ensures trials_of { (L : Entries) →
-            Kept (instance_in job.entry) (partial_from job.entry.shape L finishes.now) needs.now stairs.now →
-            TrialsOf (partial_from job.entry.shape L finishes.now) result }
+            Kept (instance_in job.entry) (partial_by job.entry L finishes.now) needs.now stairs.now →
+            TrialsOf (partial_by job.entry L finishes.now) result }
     {
         Trials {
             memory,
@@ -82,11 +82,11 @@ impl Trials<'_> {
 
     // A ready task on both colours: the earlier finish, ties to blue.
     pub fn both_colours(&self, task: usize) -> Option<Trial>
-        requires { task < self.now.job.shape.tasks }
+        requires { task < length self.now.job.tasks.now }
         ensures result_value { (Q : Partial) → TrialsOf Q self.now →
             ready (instance_in self.now.job) Q.schedule task ≡ true →
             as_choice result ≡ both_colours (as_memory self.now.memory) (instance_in self.now.job) Q task }
-        ensures choice_bounds { ChoiceBounds self.now.job.shape result }
+        ensures choice_bounds { ChoiceBounds (length self.now.job.tasks.now) result }
     {
         let need = self.needs.of(task);
         let on_blue = earliest_start(

@@ -1,5 +1,6 @@
 -- Start 1 over the array of last finishes, starts 3 and 4, and all of them together.
 use Rattle.model.specs.Layout.{instance_of}
+use Rattle.model.specs.Jobs.{instance_in, partial_by}
 use Prim.Native.Nat.{ℕ, suc, ◌+◌, ◌<◌, ◌≤◌, min, max, pred}
 use mathlib.Core.List.{List}
 use mathlib.Core.Option.{none, some}
@@ -21,7 +22,6 @@ use Rattle.needs.specs.declared.table.Need.{Need}
 use Rattle.needs.specs.Needs.{NeedBounds}
 use Rattle.model.specs.declared.job.Job.{Job}
 use Rattle.model.specs.Layout.{Entries, count_in, Processors}
-use Rattle.model.specs.Jobs.{instance_in, partial_by}
 use Rattle.model.proofs.JobLaws.{last-finish-at}
 use Rattle.starts.specs.declared.memory.Memory.{Memory}
 use Rattle.starts.specs.declared.memory.Memory.TheVariants.{Aware, Plain}

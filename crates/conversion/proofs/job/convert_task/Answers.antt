@@ -21,8 +21,12 @@ returns-then-work-eq0 c =
 
 pub push_file-requires : goal.push_file-requires
 push_file-requires c =
-    omega (arith, ap (λ l. length l.items) c.push_task.ensures.files, files-stored c.requires.stored,
-    count_less c.args.job.now c.requires.i_lt_tasks c.work-work.ensures.value c.if-work-eq0.false)
+    omega (
+      arith,
+      ap (λ l. length l.items) c.push_task.ensures.files,
+      files-stored c.requires.stored,
+      count_less c.args.job.now c.requires.i_lt_tasks c.work-work.ensures.value c.if-work-eq0.false,
+    )
 
 pub overflow_add-result : goal.overflow_add-result
 overflow_add-result c = omega (arith, count_less c.args.job.now c.requires.i_lt_tasks c.work-work.ensures.value c.if-work-eq0.false)

@@ -1,30 +1,23 @@
-use native.Mathlib.Omega.{arith}
-use borrow.Author.Count.{below_more}
-use Rattle.model.specs.Layout.{job_of, count_in}
-use Rattle.placement.proofs.SlotLaws.{latest-free-from, chosen-first}
+-- `chosen_processor` meets its contract: what is found is the first of those with the latest last finish.
+use Prim.Native.Nat.{ℕ}
+use mathlib.Core.Bool.{true, false, ◌&&◌}
+use mathlib.Core.Path.{◌≡◌}
+use lib.Dec.{eqb}
+use borrow.Author.Tests.{tests}
+use Rattle.std.proofs.Common.{rules}
+use Rattle.std.proofs.lemmas.Iterator.{first_from_Range}
+use Rattle.placement.specs.Slots.{last_in}
+use Rattle.placement.proofs.SlotLaws.{free_in, chosen-found}
 use Rattle.placement.proofs.processor.chosen_processor.Goals as goal
-
-pub returns-then-is_latest_free-clause-value : goal.returns-then-is_latest_free-clause-value
-returns-then-is_latest_free-clause-value c =
-    let j = c.args.job.now in
-    λ L.
-    chosen-first j.shape c.args.finishes.now c.args.colour c.args.start (job_of j.numbers.now) L c.loop-p.p (omega (arith, c.loop-p.invariant.0)) c.loop-p.invariant.1
-    (λ l. latest-free-from j.shape c.args.finishes.now c.args.colour c.args.start c.loop-p.p c.last_in.ensures c.latest_in-latest.ensures
-    c.is_latest_free.ensures c.if-is_latest_free.true)
-
-pub loop-p-init : goal.loop-p-init
-loop-p-init c = (c.count_in-p-end.ensures, λ q l. absurd (omega arith))
-
-pub loop-p-preserved : goal.loop-p-preserved
-loop-p-preserved c = (
-  c.loop-p.invariant.0,
-  below_more _ _ c.loop-p.invariant.1 (latest-free-from c.args.job.now.shape c.args.finishes.now c.args.colour c.args.start c.loop-p.p
-      c.last_in.ensures c.latest_in-latest.ensures c.is_latest_free.ensures c.if-is_latest_free.false),
-)
 
 pub returns-clause-value : goal.returns-clause-value
 returns-clause-value c =
     let j = c.args.job.now in
-    λ L.
-    chosen-first j.shape c.args.finishes.now c.args.colour c.args.start (job_of j.numbers.now) L (count_in j.shape c.args.colour) (omega arith)
-    (λ q l. c.loop-p.invariant.1 q (omega (arith, c.loop-p.invariant.0))) (λ l. absurd (omega arith))
+    let xs = c.args.finishes.now in
+    let x = c.args.colour in
+    let s = c.args.start in
+    let latest = c.latest_in-latest.result in
+    λ L. chosen-found j xs x s L c.find.result c.count_in.ensures c.latest_in-latest.ensures
+    (first_from_Range _ _ _ c.find.result (λ (p : ℕ). (free_in j xs x s p && eqb (last_in j.board xs x p) latest) ≡ true)
+    (λ (p : ℕ). (free_in j xs x s p && eqb (last_in j.board xs x p) latest) ≡ false) c.find.ensures.ran
+    (λ p q k. search (rules, tests)) (λ p q k. search (rules, tests)))

@@ -11,21 +11,21 @@ loop-p-init c = (c.count_in-p-end.ensures, sym (max_none _))
 
 pub loop-p-preserved : goal.loop-p-preserved
 loop-p-preserved c =
-    let b = c.args.job.now.shape in
+    let j = c.args.job.now in
     let xs = c.args.finishes.now in
     let f = c.last_in-finish.result in
     elim c.if-finish-start.branch [
       | then-finish-start w ↦ omega (
         arith,
-        latest-turn b xs c.args.colour c.args.start c.loop-p.p f f c.last_in-finish.ensures (rw (le-leb f c.args.start w.if-finish-start.true) refl),
+        latest-turn j xs c.args.colour c.args.start c.loop-p.p f f c.last_in-finish.ensures (rw (le-leb f c.args.start w.if-finish-start.true) refl),
       )
       | else-finish-start w ↦ omega (
         arith,
-        latest-turn b xs c.args.colour c.args.start c.loop-p.p 0 f c.last_in-finish.ensures (rw (lt-leb f c.args.start w.if-finish-start.false) refl),
+        latest-turn j xs c.args.colour c.args.start c.loop-p.p 0 f c.last_in-finish.ensures (rw (lt-leb f c.args.start w.if-finish-start.false) refl),
       )
     ]
 
 pub returns : goal.returns
 returns c =
     c.loop-p.invariant.1
-    ∙ latest-total c.args.job.now.shape c.args.finishes.now c.args.colour c.args.start (omega (arith, c.loop-p.invariant.0))
+    ∙ latest-total c.args.job.now c.args.finishes.now c.args.colour c.args.start (omega (arith, c.loop-p.invariant.0))

@@ -8,5 +8,5 @@ use Rattle.placement.proofs.processor.latest_in.Given as goal
 
 abbrev pub invariant-loop-p : goal.invariant-loop-p
 invariant-loop-p l =
-    (l.p-end ≡ count_in l.job.shape l.colour)
-    × (l.most ≡ max_where l.p (free_in l.job.shape l.finishes l.colour l.start) (last_in l.job.shape l.finishes l.colour))
+    (l.p-end ≡ count_in l.job.board l.colour)
+    × (l.most ≡ max_where l.p (free_in l.job l.finishes l.colour l.start) (last_in l.job.board l.finishes l.colour))

@@ -1,5 +1,5 @@
 -- `assign` meets its contract: the three writes are the rules' `assign`.
-use Rattle.model.specs.Layout.{job_of, entries_of}
+use Rattle.model.specs.Layout.{entries_of}
 use Rattle.placement.proofs.PlaceLaws.{assigned}
 use Rattle.placement.proofs.SlotLaws.{chosen-exists, chosen-some, chosen-is}
 use Rattle.placement.proofs.task.assign.Goals as goal
@@ -8,20 +8,19 @@ pub unwrap-p-requires : goal.unwrap-p-requires
 unwrap-p-requires c =
     let j = c.args.links.now.job in
     let L = entries_of c.args.schedule.now in
-    chosen-some j.shape c.args.finishes.now c.args.trial.colour c.args.trial.start (job_of j.numbers.now) L j.in_bounds.processors c.requires.colour_bound c.chosen_processor.result
+    chosen-some j c.args.finishes.now c.args.trial.colour c.args.trial.start L j.in_bounds.processors c.requires.colour_bound c.chosen_processor.result
     (c.chosen_processor.ensures.value L)
 
 pub returns : goal.returns
 returns c =
     let a = c.args in
     let j = a.links.now.job in
-    let J = job_of j.numbers.now in
     let L = entries_of a.schedule.now in
-    let chosen = chosen-is j.shape a.finishes.now a.trial.colour a.trial.start J L c.unwrap-p.ensures (c.chosen_processor.ensures.value L) in
-    let exists = chosen-exists j.shape a.finishes.now a.trial.colour a.trial.start J L j.in_bounds.processors c.requires.colour_bound chosen in
+    let chosen = chosen-is j a.finishes.now a.trial.colour a.trial.start L c.unwrap-p.ensures (c.chosen_processor.ensures.value L) in
+    let exists = chosen-exists j a.finishes.now a.trial.colour a.trial.start L j.in_bounds.processors c.requires.colour_bound chosen in
     let run = c.set_run.ensures in record {
       schedule_len_2 = run.schedule_len.1;
-      finishes_after = rw c.set.ensures.value (assigned j.in_bounds a.schedule.now a.finishes.now a.trial.colour c.requires.i_lt_tasks.0 a.trial.start
+      finishes_after = rw c.set.ensures.value (assigned j a.schedule.now a.finishes.now a.trial.colour c.requires.i_lt_tasks.0 a.trial.start
           c.set_moves.new.schedule c.set_moves.ensures.schedule_len_2 c.set_moves.ensures.by_index c.unwrap-p.result c.set.ensures.whole
           c.set_moves.ensures.schedule_after chosen exists c.slot_in-slot.ensures.value c.run_time.ensures.value run.schedule_after);
     }

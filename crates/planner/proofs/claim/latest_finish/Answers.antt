@@ -1,7 +1,6 @@
 use mathlib.Core.Path.{refl, sym, ◌∙◌}
 use native.Mathlib.Omega.{arith}
 use lib.ListN.{get_or}
-use Rattle.model.specs.Layout.{job_of}
 use Rattle.model.proofs.StepLaws.{max_none, max-next}
 use Rattle.planner.proofs.ClaimLaws.{latest-last}
 use Rattle.planner.proofs.claim.latest_finish.Goals as goal
@@ -18,4 +17,4 @@ loop-p-preserved c = (
 pub returns : goal.returns
 returns c =
     let j = c.args.job.now in
-    λ L. c.loop-p.invariant.1 ∙ latest-last j.shape (job_of j.numbers.now) L c.args.finishes.now {n = c.loop-p.p} (omega (arith, c.loop-p.invariant.0))
+    λ L. c.loop-p.invariant.1 ∙ latest-last j L c.args.finishes.now {n = c.loop-p.p} (omega (arith, c.loop-p.invariant.0))

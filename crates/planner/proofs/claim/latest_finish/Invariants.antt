@@ -7,4 +7,4 @@ use Rattle.planner.proofs.claim.latest_finish.Given as goal
 
 abbrev pub invariant-loop-p : goal.invariant-loop-p
 invariant-loop-p l =
-    (l.p-end ≡ l.job.shape.board.blue.processors + l.job.shape.board.red.processors) × (l.most ≡ max_below l.p (λ q. get_or l.finishes q 0))
+    (l.p-end ≡ l.job.board.blue.processors + l.job.board.red.processors) × (l.most ≡ max_below l.p (λ q. get_or l.finishes q 0))
