@@ -18,7 +18,8 @@ use Rattle.model.specs.Jobs.{instance_in, schedule_by}
 use Rattle.model.proofs.JobLaws.{files-in, tasks-in}
 use Rattle.sorting.specs.Sorted.{Sorted}
 use Rattle.changes.specs.Packed.{unpacked}
-use Rattle.changes.specs.Listed.{listed, file_residency, work_residency, Listing}
+use Rattle.model.specs.Residencies.{file_residency, work_residency}
+use Rattle.changes.specs.Listed.{listed, Listing}
 use Rattle.changes.proofs.PackedLaws.{key-unpacked}
 use Rattle.changes.proofs.ListLaws.{listing-both}
 

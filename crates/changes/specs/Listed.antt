@@ -1,8 +1,7 @@
 -- A memory's changes as a list of numbers.
 use Rattle.std.specs.Prelude.{ℕ, ◌+◌, ◌≤◌, List, ◌++◌, ◌≡◌, map, length}
 use Rattle.rules.specs.Count.{list_below}
-use Rattle.rules.specs.Model.{Colour, Instance, work_at, size_at, Schedule}
-use Rattle.rules.specs.Residency.{Hold, hold_of, work_of}
+use Rattle.rules.specs.Residency.{Hold}
 use Rattle.rules.specs.Changes.{Residency, Change, changes_by, changes_in}
 use Rattle.changes.specs.Packed.{unpacked}
 
@@ -19,10 +18,3 @@ pub record Pushed (xs : List ℕ) (h : Hold) (size : ℕ) (ys : List ℕ) : Type
 pub record Listing (xs : List ℕ) (g : ℕ → Residency) (k : ℕ) (ys : List ℕ) : Type 0 where
   pub more : length ys ≤ length xs + (k + k)
   pub changes : listed ys ≡ listed xs ++ changes_in (list_below k g)
-
--- the two kinds of `residencies`
-abbrev pub file_residency : Instance → Schedule → Colour → ℕ → Residency
-file_residency I P c k = record { hold = hold_of I P c k; size = size_at I k }
-
-abbrev pub work_residency : Instance → Schedule → Colour → ℕ → Residency
-work_residency I P c i = record { hold = work_of I P c i; size = work_at I i }

@@ -1,5 +1,6 @@
 // A change as one number: twice its tick, one more for a rise, and below that the amount. So numbers in the order of their keys are
-// changes in time order, falls before rises at one tick.
+// changes in time order, falls before rises at one tick. A number and no record, since the sort goes by digits of one number, and a
+// number takes half the bytes of a record.
 ghost use Rattle.std.specs.Prelude.{◌≡◌, ◌+◌, ◌*◌, ◌<◌, ◌≤◌};
 ghost use Rattle.rules.specs.Changes.{changed_by};
 ghost use Rattle.model.specs.Layout.{last_tick};

@@ -1,13 +1,14 @@
 // The changes of a memory, listed and sorted.
-ghost use Rattle.std.specs.Prelude.{◌+◌, ◌<◌, ◌≤◌, length};
-ghost use Rattle.rules.specs.Changes.{InTime};
+ghost use Rattle.std.specs.Prelude.{ℕ, ◌+◌, ◌<◌, ◌≤◌, length};
+ghost use Rattle.rules.specs.Changes.{InTime, Residency};
 ghost use Rattle.arrayvec.specs.ArrayVec.{array_vec_len};
 ghost use Rattle.model.specs.Colours.{as_colour};
 ghost use Rattle.model.specs.Jobs.{instance_in, schedule_in};
 ghost use Rattle.model.specs.Layout.{last_tick};
 ghost use Rattle.model.specs.Holds.{as_hold, Within};
 ghost use Rattle.sorting.specs.Sorted.{capacity, unit};
-ghost use Rattle.changes.specs.Listed.{listed, file_residency, work_residency, Pushed, Listing};
+ghost use Rattle.model.specs.Residencies.{Gives};
+ghost use Rattle.changes.specs.Listed.{listed, Pushed, Listing};
 
 use super::change::packed;
 use arrayvec::ArrayVec;
@@ -34,25 +35,17 @@ fn push(changes: &mut Changes, h: Hold, size: u64)
     }
 }
 
-// Appends the changes of the files. One function for these and those of the tasks would take a closure, and clauses as long as both.
-fn push_files(t: &Timetable, colour: Colour, changes: &mut Changes)
-    requires { array_vec_len changes.old + (length t.now.job.files.now + length t.now.job.files.now) ≤ capacity }
-    ensures { Listing changes.old.items (file_residency (instance_in t.now.job) (schedule_in t.now) (as_colour colour)) (length t.now.job.files.now)
-        changes.new.items }
+// Appends the changes of n holds, each answered with its amount.
+fn push_all<F: Fn(usize) -> (Hold, u64)>(n: usize, residency: F, changes: &mut Changes)
+    requires room { array_vec_len changes.old + (n + n) ≤ capacity }
+    requires callable { (k : ℕ) → k < n → F.pre residency k }
+    requires within { (k : ℕ) (r : _) → k < n → F.post residency k r → (r.1 < unit) × Within last_tick r.0 }
+    ensures upper_bound { array_vec_len changes.new ≤ array_vec_len changes.old + (n + n) }
+    ensures changes { (g : ℕ → Residency) → Gives (F.post residency) n g → Listing changes.old.items g n changes.new.items }
 {
-    for k in 0..t.job.files.len() {
-        push(changes, t.hold_of(k, colour), t.job.size(k));
-    }
-}
-
-// Appends the changes of the tasks' working memory.
-fn push_work(t: &Timetable, colour: Colour, changes: &mut Changes)
-    requires { array_vec_len changes.old + (length t.now.job.tasks.now + length t.now.job.tasks.now) ≤ capacity }
-    ensures { Listing changes.old.items (work_residency (instance_in t.now.job) (schedule_in t.now) (as_colour colour)) (length t.now.job.tasks.now)
-        changes.new.items }
-{
-    for i in 0..t.job.tasks.len() {
-        push(changes, t.work_hold(i, colour), t.job.work(i));
+    for k in 0..n {
+        let (hold, size) = residency(k);
+        push(changes, hold, size);
     }
 }
 
@@ -62,7 +55,7 @@ pub fn sorted_changes(t: &Timetable, colour: Colour, changes: &mut Changes)
     ensures upper_bound { array_vec_len changes.new ≤ capacity }
 {
     changes.clear();
-    push_files(t, colour, changes);
-    push_work(t, colour, changes);
+    push_all(t.job.files.len(), |k| (t.hold_of(k, colour), t.job.size(k)), changes);
+    push_all(t.job.tasks.len(), |i| (t.work_hold(i, colour), t.job.work(i)), changes);
     sort(changes.as_mut_slice());
 }

@@ -23,11 +23,7 @@ pub struct Totals {
 fn first_over(over: Option<u64>, tick: u64, total: u64, limit: u64) -> Option<u64>
     ensures { result ≡ over_next over (ltb limit total) tick }
 {
-    match over {
-        Some(_) => over,
-        None if limit < total => Some(tick),
-        None => None,
-    }
+    over.or((limit < total).then_some(tick))
 }
 
 // The totals over the changes, in the order in which they stand.

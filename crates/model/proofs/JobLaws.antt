@@ -1,14 +1,12 @@
 -- The instance and the schedules of a job, by index.
-use Prim.Native.Nat.{ℕ, ◌+◌, ◌≤◌, ◌<◌}
+use Prim.Native.Nat.{ℕ, ◌+◌, ◌<◌}
 use mathlib.Core.List.{List}
-use mathlib.Core.Path.{◌≡◌, sym, ap, ◌∙◌}
+use mathlib.Core.Path.{◌≡◌, ap}
 use native.Mathlib.Omega.{arith}
-use lib.Dec.{eqb}
 use lib.ListN.{length, get_or}
 use borrow.Author.Tests.{lt-ltb}
-use Rattle.rules.specs.Model.{Instance, task_at, task_count, file_at, file_count, limit_of, work_at, size_at, move_time_at, run_at, start_at, move_at, colour_of, finish_at}
+use Rattle.rules.specs.Model.{task_at, task_count, file_at, file_count, limit_of, run_at, move_at, colour_of}
 use Rattle.rules.specs.Validity.{Complete}
-use Rattle.rules.specs.Scheduling.{reads, makes, finish_on}
 use Rattle.rules.proofs.CountLaws.{get_or-list_below}
 use Rattle.model.specs.declared.job.Job.{Job}
 use Rattle.model.specs.declared.colour.Colour.{Colour}

@@ -1,28 +1,23 @@
 -- What the instance and the schedule of the lists and arrays are, by index, and the bounds of a well-formed instance's lists.
-use Prim.Native.Nat.{ℕ, ◌+◌, ◌≤◌, ◌<◌}
+use Prim.Native.Nat.{ℕ, ◌≤◌, ◌<◌}
 use mathlib.Core.List.{List}
-use mathlib.Core.Path.{◌≡◌, refl, sym, ap, ◌∙◌}
+use mathlib.Core.Path.{◌≡◌, refl, ap}
 use native.Mathlib.Omega.{arith}
-use lib.Dec.{eqb}
-use borrow.Author.Tests.{le-leb, lt-leb, lt-ltb}
-use lib.ListN.{length, get_or, get_or-map}
+use borrow.Author.Tests.{le-leb, lt-leb}
+use lib.ListN.{length, get_or-map}
 use Rattle.std.proofs.lemmas.List.{length-map}
-use Rattle.rules.specs.Model.{blue, red, Instance, Task, file_at, file_count, task_at, task_count, limit_of, side_of, time_on, work_at, size_at, move_time_at}
-use Rattle.rules.specs.Model.{run_at, start_at, move_at, colour_of, finish_at}
-use Rattle.rules.specs.Validity.{Complete}
-use Rattle.rules.specs.Scheduling.{reads, makes, finish_on}
+use Rattle.rules.specs.Model.{blue, red, Instance, Task, file_at, file_count, task_at, task_count, limit_of, side_of, time_on}
+use Rattle.rules.specs.Model.{run_at, start_at, move_at}
 use Rattle.rules.specs.Limits.{processor_counts, run_times, work_sizes}
 use Rattle.rules.specs.Promises.{In, WellFormed}
 use Rattle.rules.specs.declared.Board.{Board}
 use Rattle.rules.proofs.CountLaws.{get_or-list_below}
-use Rattle.model.specs.declared.job.Job.{Job}
 use Rattle.model.specs.declared.layout.Task.{Task as StoredTask}
 use Rattle.model.specs.declared.layout.File.{File as StoredFile}
 use Rattle.model.specs.declared.colour.Colour.{Colour}
 use Rattle.model.specs.declared.colour.Colour.TheVariants.{Blue, Red}
 use Rattle.model.specs.Colours.{as_colour, by_colour}
-use Rattle.model.specs.Layout.{Entries, as_task, as_file, stored_task, stored_file, run_from, instance_of, schedule_from, colour_at, count_in, JobBounds, Placed}
-use Rattle.model.specs.Jobs.{instance_in, schedule_by, partial_by}
+use Rattle.model.specs.Layout.{Entries, as_task, as_file, stored_task, stored_file, run_from, instance_of, schedule_from, colour_at, count_in, JobBounds}
 
 pub time-by : (x : Colour) (a : Task) → time_on (as_colour x) a ≡ by_colour x a.on_blue a.on_red
 time-by Blue a = refl

@@ -3,6 +3,7 @@ pub mod Colours
 pub mod Layout
 pub mod Costs
 pub mod Holds
+pub mod Residencies
 pub mod Claims
 pub mod Jobs
 pub mod Ticks

@@ -1,5 +1,5 @@
 -- `colour_of` meets its contract, by the two cases of the processor.
-use Rattle.std.proofs.Common.{◌≡◌, ◌∙◌}
+use Rattle.std.proofs.Common.{◌∙◌}
 use Rattle.model.specs.Layout.{entries_of}
 use Rattle.model.proofs.LayoutLaws.{colour-blue, colour-red}
 use Rattle.model.proofs.JobLaws.{colour-in}

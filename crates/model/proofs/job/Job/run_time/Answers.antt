@@ -1,5 +1,5 @@
 -- `run_time` meets its contract.
-use Rattle.std.proofs.Common.{◌≡◌, ◌∙◌, sym}
+use Rattle.std.proofs.Common.{◌∙◌, sym}
 use Rattle.model.proofs.LayoutLaws.{time-by}
 use Rattle.model.proofs.JobLaws.{task-in}
 use Rattle.model.proofs.job.Job.run_time.Goals as goal
