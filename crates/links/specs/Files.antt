@@ -1,5 +1,5 @@
 -- The files of a task at an end, one after the other.
-use Rattle.std.specs.Prelude.{ℕ, suc, ◌≡◌, length, Option, Some, None}
+use Rattle.std.specs.Prelude.{ℕ, suc, ◌≡◌, length, Option, Some}
 use Rattle.model.specs.declared.job.Job.{Job}
 use Rattle.model.specs.Jobs.{instance_in}
 use Rattle.links.specs.declared.chains.End.{End}

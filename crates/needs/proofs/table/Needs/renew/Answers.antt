@@ -1,4 +1,3 @@
-use lib.ListN.{length}
 use native.Mathlib.Omega.{arith}
 use mathlib.Core.Path.{refl}
 use Rattle.model.specs.Jobs.{schedule_of, instance_in}
