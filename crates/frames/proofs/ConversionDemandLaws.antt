@@ -1,4 +1,4 @@
--- Order 7: an answer that equals its definition keeps the demands; and the answers by what was read of the board sheet.
+-- Order 7: an answer that equals its definition keeps the demands; and the answers to a board sheet that is refused.
 use Prim.Native.Nat.{ℕ, ◌≤◌}
 use mathlib.Core.Path.{◌≡◌, refl, sym, ap, ◌∙◌}
 use mathlib.Core.List.{List}
@@ -21,11 +21,8 @@ use Rattle.rules.proofs.StripLaws.{Strips, by_mark, leaves, strips, strip-refuse
 use Rattle.std.specs.Prelude.{Err}
 use Rattle.rules.specs.declared.refusal.Refusal.{Refusal}
 use Rattle.convert_text.specs.Answers.{as_output}
-use Rattle.instance.specs.Reads.{IsRead}
-use Rattle.instance.proofs.AcceptedLaws.{read-refused}
-use Rattle.model.specs.declared.layout.Shape.{Shape}
-use Rattle.model.specs.declared.layout.Numbers.{Numbers}
-use Rattle.model.specs.Layout.{job_of, instance_from}
+use Rattle.instance.specs.Reads.{IsRefused}
+use Rattle.instance.proofs.AcceptedLaws.{of_sheet}
 use Rattle.frames.specs.ConversionDemands.{ConverterDemands, StripperDemands}
 
 -- a text that fits wherever any text does is never too long
@@ -109,21 +106,10 @@ module _ (sheet paper buffer : List ℕ) where
   pub stripper-demands : {a : Output} → a ≡ strip sheet paper buffer → StripperDemands sheet paper buffer a
   stripper-demands e = rw e strip-demands
 
--- ---- by what was read of the board sheet
+-- ---- a board sheet that is refused
 
-module _ (sheet : List ℕ) (xs : Numbers) where
-  module _ (buffer : List ℕ) where
-    pub converted-on : (b : Shape) {a : Output} → read_instance sheet ≡ accepted (instance_from b (job_of xs)) → a ≡ convert_on (instance_from b (job_of xs)) buffer
-        → a ≡ convert sheet buffer
-    converted-on b e q = q ∙ sym (convert-accepted sheet buffer _ e)
+pub unconverted : (sheet buffer : List ℕ) (e : Refusal) → IsRefused e (read_instance sheet) → as_output (Err e) buffer ≡ convert sheet buffer
+unconverted sheet buffer e q = let f = of_sheet sheet e q in rw f.is (sym (convert-refused sheet buffer _ f.line f.refused))
 
-    pub unconverted : (e : Refusal) → IsRead (Err e) xs (read_instance sheet) → as_output (Err e) buffer ≡ convert sheet buffer
-    unconverted e q = let f = read-refused sheet (Err e) xs q e refl in rw f.is (sym (convert-refused sheet buffer _ f.line f.refused))
-
-  module _ (paper buffer : List ℕ) where
-    pub stripped-on : (b : Shape) {a : Output} → read_instance sheet ≡ accepted (instance_from b (job_of xs)) → a ≡ strip_on (instance_from b (job_of xs)) paper buffer
-        → a ≡ strip sheet paper buffer
-    stripped-on b e q = q ∙ sym (strip-accepted sheet paper buffer _ e)
-
-    pub unstripped : (e : Refusal) → IsRead (Err e) xs (read_instance sheet) → as_output (Err e) buffer ≡ strip sheet paper buffer
-    unstripped e q = let f = read-refused sheet (Err e) xs q e refl in rw f.is (sym (strip-refused sheet paper buffer _ f.line f.refused))
+pub unstripped : (sheet paper buffer : List ℕ) (e : Refusal) → IsRefused e (read_instance sheet) → as_output (Err e) buffer ≡ strip sheet paper buffer
+unstripped sheet paper buffer e q = let f = of_sheet sheet e q in rw f.is (sym (strip-refused sheet paper buffer _ f.line f.refused))

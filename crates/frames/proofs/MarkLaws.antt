@@ -13,17 +13,13 @@ use Rattle.rules.specs.InstanceText.{read_instance}
 use Rattle.rules.specs.ScheduleText as Paper
 use Rattle.rules.specs.ScheduleText.{read_schedule}
 use Rattle.rules.specs.Calls.{mark_on, mark_by, mark, line_at, fault_line}
-use Rattle.std.specs.Prelude.{Err}
 use Rattle.rules.specs.declared.refusal.Fault.{Fault}
 use Rattle.rules.specs.declared.refusal.Refusal.{Refusal}
 use Rattle.model.specs.declared.claim.Claim.{Claim}
 use Rattle.model.specs.Claims.{as_claim}
 use Rattle.rules.specs.Refusals.{as_fault, refusal_number, refusal_place}
-use Rattle.instance.specs.Reads.{IsRead}
-use Rattle.instance.proofs.AcceptedLaws.{read-refused}
-use Rattle.model.specs.declared.layout.Shape.{Shape}
-use Rattle.model.specs.declared.layout.Numbers.{Numbers}
-use Rattle.model.specs.Layout.{job_of, instance_from}
+use Rattle.instance.specs.Reads.{IsRefused}
+use Rattle.instance.proofs.AcceptedLaws.{of_sheet}
 
 -- ---- the answer
 
@@ -31,7 +27,7 @@ mark-refused : (sheet timetable : List ℕ) {w : _} (k : ℕ) → read_instance 
 unfolding mark_by
 mark-refused sheet timetable k e = rw (e, mark_by)
 
-mark-accepted : (sheet timetable : List ℕ) (I : Instance) → read_instance sheet ≡ Sheet.accepted I → mark sheet timetable ≡ mark_on I timetable
+pub mark-accepted : (sheet timetable : List ℕ) (I : Instance) → read_instance sheet ≡ Sheet.accepted I → mark sheet timetable ≡ mark_on I timetable
 unfolding mark_by
 mark-accepted sheet timetable I e = by_read (read_schedule I timetable) refl
   where
@@ -39,13 +35,9 @@ mark-accepted sheet timetable I e = by_read (read_schedule I timetable) refl
     by_read (Paper.refused w k) f = rw (e, f, mark_by)
     by_read (Paper.read P c) f = rw (e, f, mark_by)
 
-module _ (sheet timetable : List ℕ) (xs : Numbers) where
-  pub marked-on : (b : Shape) {v : Verdict} → read_instance sheet ≡ Sheet.accepted (instance_from b (job_of xs))
-      → v ≡ mark_on (instance_from b (job_of xs)) timetable → v ≡ mark sheet timetable
-  marked-on b e q = q ∙ sym (mark-accepted sheet timetable _ e)
-
-  pub marked_refused : (e : Refusal) → IsRead (Err e) xs (read_instance sheet) → refused_by (refusal_number e) (refusal_place e) ≡ mark sheet timetable
-  marked_refused e q = let f = read-refused sheet (Err e) xs q e refl in rw f.is (sym (mark-refused sheet timetable f.line f.refused))
+pub marked_refused : (sheet timetable : List ℕ) (e : Refusal) → IsRefused e (read_instance sheet)
+    → refused_by (refusal_number e) (refusal_place e) ≡ mark sheet timetable
+marked_refused sheet timetable e q = let f = of_sheet sheet e q in rw f.is (sym (mark-refused sheet timetable f.line f.refused))
 
 -- ---- the line at fault
 

@@ -8,28 +8,19 @@ use Rattle.rules.specs.InstanceText.{read_instance}
 use Rattle.rules.specs.Scheduling as Rules
 use Rattle.rules.specs.Scheduling.{Planner, outcome}
 use Rattle.rules.specs.Calls.{plan_made, plan_on, plan}
-use Rattle.rules.specs.Calls as Calls
 use Rattle.rules.proofs.PlannerLaws.{plan-refused, plan-stuck, plan-complete}
 use Rattle.std.specs.Prelude.{Err}
 use Rattle.rules.specs.declared.refusal.Refusal.{Refusal}
 use Rattle.plan_text.specs.Answers.{answer_of}
-use Rattle.instance.specs.Reads.{IsRead}
-use Rattle.instance.proofs.AcceptedLaws.{read-refused}
-use Rattle.model.specs.declared.layout.Shape.{Shape}
-use Rattle.model.specs.declared.layout.Numbers.{Numbers}
-use Rattle.model.specs.Layout.{job_of, instance_from}
+use Rattle.instance.specs.Reads.{IsRefused}
+use Rattle.instance.proofs.AcceptedLaws.{of_sheet}
 
-plan-on : (R : Planner) (sheet buffer : List ℕ) (I : Instance) → read_instance sheet ≡ Sheet.accepted I → plan R sheet buffer ≡ plan_on R I buffer
+pub plan-on : (R : Planner) (sheet buffer : List ℕ) (I : Instance) → read_instance sheet ≡ Sheet.accepted I → plan R sheet buffer ≡ plan_on R I buffer
 plan-on R sheet buffer I e = by-outcome (outcome R I) refl
   where
     by-outcome : (x : Rules.Outcome) → outcome R I ≡ x → plan R sheet buffer ≡ plan_on R I buffer
     by-outcome (Rules.stuck k trials) o = plan-stuck R sheet buffer I k trials e o ∙ sym (ap (plan_made I buffer) o)
     by-outcome (Rules.complete P trials) o = plan-complete R sheet buffer I P trials e o ∙ sym (ap (plan_made I buffer) o)
 
-module _ (R : Planner) (sheet buffer : List ℕ) (xs : Numbers) where
-  pub planned-on : (b : Shape) {a : Calls.Answer} → read_instance sheet ≡ Sheet.accepted (instance_from b (job_of xs))
-      → a ≡ plan_on R (instance_from b (job_of xs)) buffer → a ≡ plan R sheet buffer
-  planned-on b e q = q ∙ sym (plan-on R sheet buffer _ e)
-
-  pub unread : (e : Refusal) → IsRead (Err e) xs (read_instance sheet) → answer_of (Err e) 0 buffer ≡ plan R sheet buffer
-  unread e q = let f = read-refused sheet (Err e) xs q e refl in rw f.is (sym (plan-refused R sheet buffer _ f.line f.refused))
+pub unread : (R : Planner) (sheet buffer : List ℕ) (e : Refusal) → IsRefused e (read_instance sheet) → answer_of (Err e) 0 buffer ≡ plan R sheet buffer
+unread R sheet buffer e q = let f = of_sheet sheet e q in rw f.is (sym (plan-refused R sheet buffer _ f.line f.refused))

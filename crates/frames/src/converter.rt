@@ -6,8 +6,7 @@ ghost use Rattle.convert_text.specs.Answers.{as_output};
 ghost use Rattle.frames.specs.ConversionDemands.{ConverterDemands, StripperDemands};
 
 use convert_text::{convert_instance, strip_paper};
-use model::job::Job;
-use model::layout;
+use model::layout::Numbers;
 use rules::Refusal;
 
 // The converted sheet of a board sheet, written at the front of the buffer: how many bytes that takes.
@@ -15,10 +14,9 @@ pub fn convert(sheet: &[u8], out: &mut [u8]) -> Result<usize, Refusal>
     ensures answer { as_output result out.new ≡ rules-convert sheet.now out.old }
     ensures converter_demands { ConverterDemands sheet.now out.old (as_output result out.new) }
 {
-    let mut numbers = layout::Numbers::new();
-    let shape = instance::read(sheet, &mut numbers)?;
-    let numbers = &numbers;
-    convert_instance(&Job { shape, numbers }, out)
+    let mut numbers = Numbers::new();
+    let job = instance::job_of(sheet, &mut numbers)?;
+    convert_instance(&job, out)
 }
 
 // What is left of a timetable of the converted sheet, for the board sheet itself, written at the front of the buffer: how many bytes that takes.
@@ -26,8 +24,7 @@ pub fn strip(sheet: &[u8], paper: &[u8], out: &mut [u8]) -> Result<usize, Refusa
     ensures answer { as_output result out.new ≡ rules-strip sheet.now paper.now out.old }
     ensures stripper_demands { StripperDemands sheet.now paper.now out.old (as_output result out.new) }
 {
-    let mut numbers = layout::Numbers::new();
-    let shape = instance::read(sheet, &mut numbers)?;
-    let numbers = &numbers;
-    strip_paper(&Job { shape, numbers }, paper, out)
+    let mut numbers = Numbers::new();
+    let job = instance::job_of(sheet, &mut numbers)?;
+    strip_paper(&job, paper, out)
 }

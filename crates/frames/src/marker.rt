@@ -6,8 +6,7 @@ ghost use Rattle.frames.specs.Demands.{MarkerDemands};
 
 use mark_text::mark_paper;
 use model::claim::Claim;
-use model::job::Job;
-use model::layout;
+use model::layout::Numbers;
 use rules::Refusal;
 
 // Marks a timetable on a board sheet: its claim, if it is accepted.
@@ -15,10 +14,9 @@ pub fn mark(sheet: &[u8], paper: &[u8]) -> Result<Claim, Refusal>
     ensures answer { as_verdict result ≡ rules-mark sheet.now paper.now }
     ensures marker_demands { MarkerDemands sheet.now paper.now (as_verdict result) }
 {
-    let mut numbers = layout::Numbers::new();
-    let shape = instance::read(sheet, &mut numbers)?;
-    let numbers = &numbers;
-    mark_paper(&Job { shape, numbers }, paper)
+    let mut numbers = Numbers::new();
+    let job = instance::job_of(sheet, &mut numbers)?;
+    mark_paper(&job, paper)
 }
 
 // The line at fault: of the board sheet for 1 to 4, of the timetable for 11 to 14, without its LF; empty if

@@ -7,8 +7,7 @@ ghost use Rattle.plan_text.specs.Answers.{as_answer};
 ghost use Rattle.frames.specs.Demands.{PlannerDemands, AwareDemands, PlainDemands, TwoTrialsATask};
 ghost use Rattle.frames.specs.Planners.{as_planner};
 
-use model::job::Job;
-use model::layout;
+use model::layout::Numbers;
 use plan_text::{Answer, plan_instance};
 use planner::Rule;
 use starts::memory::Memory;
@@ -43,15 +42,12 @@ pub fn plan(planner: Planner, sheet: &[u8], out: &mut [u8]) -> Answer
     ensures plain_demands { memory_of (as_planner planner) ≡ plain → PlainDemands (as_planner planner) sheet.now out.old (as_answer result out.new) }
     ensures two_trials_a_task { as_planner planner ≡ heft plain → TwoTrialsATask sheet.now (as_answer result out.new) }
 {
-    let mut numbers = layout::Numbers::new();
-    match instance::read(sheet, &mut numbers) {
+    let mut numbers = Numbers::new();
+    match instance::job_of(sheet, &mut numbers) {
         Err(refusal) => Answer {
             written: Err(refusal),
             trials: 0,
         },
-        Ok(shape) => {
-            let numbers = &numbers;
-            plan_instance(planner.rule(), &Job { shape, numbers }, out)
-        }
+        Ok(job) => plan_instance(planner.rule(), &job, out),
     }
 }

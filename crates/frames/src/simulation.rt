@@ -4,8 +4,7 @@ ghost use Rattle.rules.specs.Simulation.{simulate as rules-simulate};
 ghost use Rattle.simulator.specs.Answers.{as_answer};
 ghost use Rattle.frames.specs.Demands.{SimulatorDemands};
 
-use model::job::Job;
-use model::layout;
+use model::layout::Numbers;
 use rules::Refusal;
 use simulate_text::simulate_paper;
 use simulator::answer::Simulation;
@@ -21,11 +20,7 @@ pub fn simulate<'a>(
     ensures answer { as_answer result ≡ rules-simulate sheet.now paper.now made steps }
     ensures simulator_demands { SimulatorDemands sheet.now paper.now made steps (as_answer result) }
 {
-    let mut numbers = layout::Numbers::new();
-    let shape = instance::read(sheet, &mut numbers)?;
-    let job = Job {
-        shape,
-        numbers: &numbers,
-    };
+    let mut numbers = Numbers::new();
+    let job = instance::job_of(sheet, &mut numbers)?;
     simulate_paper(&job, paper, made, steps)
 }

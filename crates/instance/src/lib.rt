@@ -6,5 +6,5 @@ mod line;
 mod sheet;
 mod writer;
 
-pub use sheet::read;
+pub use sheet::{job_of, read};
 pub use writer::{instance_size, write};

@@ -50,7 +50,7 @@ pub enum Line {
     },
 }
 
-// Whether n can be a task's number.
+// Whether n can be a task's number. This and the next are `between` by the names that the lines below ask for.
 fn is_task(n: u64) -> bool
     ensures { result ≡ in_range task_numbers n }
 {

@@ -1,16 +1,19 @@
 // A board sheet, read line by line.
-ghost use Rattle.std.specs.Prelude.{◌≡◌, ◌≤◌, length};
+ghost use Rattle.std.specs.Prelude.{◌≡◌, ◌≤◌, length, IfOk};
 ghost use Rattle.rules.specs.declared.Board.{Board as AnyBoard};
 ghost use Rattle.rules.specs.Text.{lines_of};
 ghost use Rattle.rules.specs.InstanceText.{instance_line, with_board, with_line, read_rest, read_instance};
 ghost use Rattle.rules.specs.Limits.{max_text};
+ghost use Rattle.rules.specs.Promises.{WellFormed};
+ghost use Rattle.model.specs.Jobs.{instance_in};
 ghost use Rattle.model.specs.Layout.{instance_with};
 ghost use Rattle.text.specs.Due.{TakesDue};
 ghost use Rattle.instance.specs.Steps.{board_alone};
-ghost use Rattle.instance.specs.Reads.{IsRead};
+ghost use Rattle.instance.specs.Reads.{IsRead, IsJob};
 
 use crate::build::{add, first};
 use crate::line::next_line;
+use model::job::Job;
 use model::layout::Numbers;
 use rules::{Board, Fault, Refusal};
 use text::Taken;
@@ -62,4 +65,13 @@ pub fn read(sheet: &[u8], numbers: &mut Numbers) -> Result<Board, Refusal>
     let step = begin(sheet).map_err(|fault| Refusal::Sheet(fault, 1))?;
     numbers.clear();
     rest_of(step.value, step.rest, numbers)
+}
+
+// The job of a board sheet, if it is accepted: its tasks and files are those that `numbers` then holds.
+pub fn job_of<'a>(sheet: &[u8], numbers: &'a mut Numbers) -> Result<Job<'a>, Refusal>
+    ensures answer { IsJob result (read_instance sheet.now) }
+    ensures well_formed { IfOk result (λ j. WellFormed (instance_in j)) }
+{
+    let board = read(sheet, numbers)?;
+    Ok(numbers.job(board))
 }

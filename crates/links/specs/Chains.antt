@@ -23,6 +23,11 @@ pub record Next (n : ℕ) (p : ℕ → Bool) (k : ℕ) (r : Option ℕ) : Type 0
   pub exists : (j : ℕ) → r ≡ Some j → j < n
   pub next : NextOf n p k (index_or n r)
 
+-- it is one of the indices of which p holds, or the end
+pub record At (n : ℕ) (p : ℕ → Bool) (r : Option ℕ) : Type 0 where
+  pub exists : (k : ℕ) → r ≡ Some k → k < n
+  pub holds : (k : ℕ) → r ≡ Some k → p k ≡ true
+
 -- whether file k is one of task i's at that end: one that it makes, or one that it reads
 abbrev pub has_at : End → Instance → ℕ → ℕ → Bool
 has_at Maker I i k = makes I i k

@@ -9,6 +9,7 @@ use chains::{Chains, chain};
 use model::job::Job;
 
 pub mod chains;
+pub mod files;
 
 pub use chains::End;
 
@@ -24,7 +25,6 @@ pub struct Links<'a> {
 
 impl Links<'_> {
     ghost use Rattle.std.specs.Prelude.{◌≡◌, ℕ, ◌<◌, suc, true, length};
-    ghost use Rattle.rules.specs.Model.{file_count};
     ghost use Rattle.model.specs.Jobs.{instance_in};
     ghost use Rattle.links.specs.Chains.{Next, has_at};
 
@@ -40,9 +40,9 @@ impl Links<'_> {
     }
 
     // The first of the files that have the task at that end.
-    pub fn first(&self, end: End, task: usize) -> Option<usize>
+    fn first(&self, end: End, task: usize) -> Option<usize>
         requires { task < length self.now.job.tasks.now }
-        ensures { Next (file_count (instance_in self.now.job)) (has_at end (instance_in self.now.job) task) 0 result }
+        ensures { Next (length self.now.job.files.now) (has_at end (instance_in self.now.job) task) 0 result }
     {
         match end {
             End::Maker => self.made.first(task),
@@ -51,10 +51,10 @@ impl Links<'_> {
     }
 
     // The next of them behind file k.
-    pub fn next(&self, end: End, k: usize) -> Option<usize>
+    fn next(&self, end: End, k: usize) -> Option<usize>
         requires { k < length self.now.job.files.now }
         ensures { (i : ℕ) → has_at end (instance_in self.now.job) i k ≡ true →
-            Next (file_count (instance_in self.now.job)) (has_at end (instance_in self.now.job) i) (suc k) result }
+            Next (length self.now.job.files.now) (has_at end (instance_in self.now.job) i) (suc k) result }
     {
         match end {
             End::Maker => self.made.next(k),

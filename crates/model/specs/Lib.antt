@@ -1,4 +1,4 @@
--- The rules' colours, instance and schedule, of the code's enum and arrays, and what the contracts cite beside them.
+-- The rules' colours, instance and schedule, of the code's enum, lists and arrays, and what the contracts cite beside them.
 pub mod Colours
 pub mod Layout
 pub mod Costs

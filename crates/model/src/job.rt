@@ -5,7 +5,8 @@ use super::colour::{Colour, by_colour};
 use super::layout::{File, Numbers, Task};
 use rules::Board;
 
-// The board of an instance, with its tasks and its files, lent.
+// The board of an instance, with its tasks and its files, lent. That the instance is well formed is no field: the readers, the writers and the
+// accessors take a job and ask for no more than its bounds, so the judge, the planners and the simulator ask for it in a clause.
 #[derive(Clone, Copy)]
 pub struct Job<'a> {
     pub board: Board,

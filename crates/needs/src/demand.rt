@@ -67,10 +67,8 @@ pub fn demand_of(links: &Links, schedule: &layout::Schedule, task: usize, colour
         schedule,
     };
     let mut demand = Demand::new();
-    let mut at = links.first(End::Reader, task);
-    while let Some(k) = at {
+    for k in links.files(End::Reader, task) {
         demand = with_file(demand, &plan, k, task, colour);
-        at = links.next(End::Reader, k);
     }
     demand
 }

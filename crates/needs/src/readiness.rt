@@ -21,12 +21,10 @@ pub fn ready(links: &Links, schedule: &layout::Schedule, task: usize) -> bool
     if plan.is_placed(task) {
         return false;
     }
-    let mut at = links.first(End::Reader, task);
-    while let Some(k) = at {
+    for k in links.files(End::Reader, task) {
         if !plan.is_placed(plan.job.maker(k)) {
             return false;
         }
-        at = links.next(End::Reader, k);
     }
     true
 }

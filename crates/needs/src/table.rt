@@ -41,10 +41,8 @@ fn sizes(links: &Links, end: End, task: usize) -> u64
     ensures upper_bound { result ≤ most_files }
 {
     let mut sum: u64 = 0;
-    let mut at = links.first(end, task);
-    while let Some(k) = at {
+    for k in links.files(end, task) {
         sum += links.job.size(k);
-        at = links.next(end, k);
     }
     sum
 }
@@ -144,11 +142,9 @@ impl Needs {
         ensures { Right (instance_in links.now.job) (schedule_of links.now.job schedule.now) self.new }
     {
         self.tasks[i].ready = false;
-        let mut at = links.first(End::Maker, i);
-        while let Some(k) = at {
+        for k in links.files(End::Maker, i) {
             let reader = links.job.reader(k);
             self.admit(links, schedule, reader);
-            at = links.next(End::Maker, k);
         }
     }
 }

@@ -23,7 +23,7 @@ use Rattle.model.specs.Colours.{as_colour}
 use Rattle.model.specs.Costs.{CostOf}
 use Rattle.model.proofs.JobLaws.{files-in, file-in}
 use Rattle.links.specs.Chains.{NextOf}
-use Rattle.staircase.specs.Steps.{change_by, Ascending, Fits}
+use Rattle.staircase.specs.Steps.{change_by, Fits}
 use Rattle.staircase.specs.Stairs.{Pending, Made}
 use Rattle.staircase.proofs.ChangesLaws.{pending-requires, pending-front, pending-after, made_none, made_one, made_then}
 use Rattle.placement.specs.declared.memory.Sizes.{Sizes}
@@ -41,11 +41,11 @@ module _ {xs ys : List Change} (e : xs ≡ ys) {ss : List Step} where
 
 -- xs is the change y alone
 module _ {xs : List Change} {y : Change} (alone : xs ≡ y ∷ []) {ss : List Step} where
-  pub one-requires : Pending xs ss → (length ss < max_pairs) × Ascending ss × Fits ss y
+  pub one-requires : Pending xs ss → (length ss < max_pairs) × Fits ss y
   one-requires Q = pending-requires (pending-is alone Q)
 
-  pub one-made : {ss' : List Step} → ss' ≡ steps_after y ss → Made xs ss ss'
-  one-made e = made-is alone (made_one y ss e)
+  pub one-made : {ss' : List Step} → ss' ≡ steps_after y ss → length ss' ≤ length ss + 1 → Made xs ss ss'
+  one-made e l = made-is alone (made_one y ss e l)
 
 pub none_made : {xs : List Change} → xs ≡ [] → (ss : List Step) → Made xs ss ss
 none_made e ss = made-is e (made_none ss)

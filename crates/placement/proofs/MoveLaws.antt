@@ -15,7 +15,7 @@ use Rattle.rules.proofs.Tests.{by_order}
 use Rattle.rules.proofs.CountLaws.{list-cong}
 use Rattle.model.specs.declared.layout.Schedule.{Schedule as StoredSchedule}
 use Rattle.model.specs.declared.job.Job.{Job}
-use Rattle.model.specs.Layout.{Entries, entries_of, run_from, JobBounds, WholeSchedule, with_move_at}
+use Rattle.model.specs.Layout.{Entries, entries_of, run_from, WholeSchedule, with_move_at}
 use Rattle.model.specs.Jobs.{instance_in, schedule_by, schedule_of}
 use Rattle.model.proofs.JobLaws.{files-in, file-in, run-in, move-in}
 use Rattle.links.specs.Chains.{NextOf}

@@ -25,8 +25,8 @@ use Rattle.model.specs.declared.colour.Colour.{Colour}
 use Rattle.model.specs.declared.colour.Colour.TheVariants.{Blue, Red}
 use Rattle.model.specs.Colours.{as_colour}
 use Rattle.model.specs.declared.job.Job.{Job}
-use Rattle.model.specs.Layout.{entries_of, run_from, count_in, JobBounds, WholeSchedule, unplaced as no_runs}
-use Rattle.model.specs.Jobs.{instance_in, schedule_by, schedule_of, partial_by}
+use Rattle.model.specs.Layout.{entries_of, run_from, count_in, WholeSchedule, unplaced as no_runs}
+use Rattle.model.specs.Jobs.{instance_in, schedule_of, partial_by}
 use Rattle.model.specs.Layout.{last_tick, with_run_at}
 use Rattle.model.proofs.LayoutLaws.{processors-of}
 use Rattle.model.proofs.JobLaws.{files-in, tasks-in}

@@ -67,10 +67,8 @@ fn move_all_in(links: &Links, schedule: &layout::Schedule, staircase: &mut Stair
     requires pending { Pending (moves_of links.now.job schedule.now trial 0 (length links.now.job.files.now)) staircase.old }
     ensures { Made (moves_of links.now.job schedule.now trial 0 (length links.now.job.files.now)) staircase.old staircase.new }
 {
-    let mut at = links.first(End::Reader, trial.task);
-    while let Some(k) = at {
+    for k in links.files(End::Reader, trial.task) {
         move_in(&links.job, schedule, staircase, trial, k);
-        at = links.next(End::Reader, k);
     }
 }
 

@@ -37,10 +37,8 @@ pub fn set_moves(links: &Links, schedule: &mut layout::Schedule, trial: Trial)
         list_below (file_count (instance_in links.now.job))
         (move_with (instance_in links.now.job) (schedule_of links.now.job schedule.old) trial.task (as_colour trial.colour) trial.start) }
 {
-    let mut at = links.first(End::Reader, trial.task);
-    while let Some(k) = at {
+    for k in links.files(End::Reader, trial.task) {
         let t = move_with(&links.job, schedule, trial, k);
         schedule.set_move_start(k, t);
-        at = links.next(End::Reader, k);
     }
 }

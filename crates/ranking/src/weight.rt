@@ -10,7 +10,7 @@ use links::{End, Links};
 use model::colour::Colour;
 use rules::Board;
 
-// The greatest, over the files that task i makes, of move time plus reader's weight; 0 if it makes none. Walks the chain of these files.
+// The greatest, over the files that task i makes, of move time plus reader's weight; 0 if it makes none.
 fn heaviest_reader(links: &Links, weights: &[u64; Board::MAX_TASKS], i: usize) -> u64
     requires well_formed { WellFormed (instance_in links.now.job) }
     requires weights_from { WeightsFrom (instance_in links.now.job) weights.now (i + 1) }
@@ -18,11 +18,9 @@ fn heaviest_reader(links: &Links, weights: &[u64; Board::MAX_TASKS], i: usize) -
     ensures { result ≡ heaviest_reader (instance_in links.now.job) i }
 {
     let mut most: u64 = 0;
-    let mut at = links.first(End::Maker, i);
-    while let Some(k) = at {
+    for k in links.files(End::Maker, i) {
         let reader = links.job.reader(k);
         most = most.max(links.job.move_time(k) + weights[reader]);
-        at = links.next(End::Maker, k);
     }
     most
 }

@@ -1,58 +1,58 @@
 -- The state of a tick, by what the code reads and writes.
-use Prim.Native.Nat.{ℕ, suc, ◌+◌, ◌<◌}
+use Prim.Native.Nat.{ℕ, zero, suc, ◌+◌, ◌≤◌, ◌<◌}
 use mathlib.Core.Bool.{Bool, true, false}
 use mathlib.Core.List.{List}
-use mathlib.Core.Path.{◌≡◌, sym, ◌∙◌}
+use mathlib.Core.Path.{◌≡◌, sym, subst, ◌∙◌}
 use native.Mathlib.Numerals.{add-one}
 use native.Mathlib.Omega.{arith}
 use native.Mathlib.Decide.{ℕ_discrete}
-use lib.ListN.{length, get_or, set}
-use lib.Seq.{get_or-set_same, get_or-set_other, ext_get_or}
+use lib.ListN.{length, get_or}
+use lib.Seq.{ext_get_or}
 use borrow.Author.Tests.{lt-ltb}
-use Rattle.rules.specs.Count.{any_below, first_below, list_below}
+use denote.Param.Members.{Mut, Called}
+use Rattle.std.specs.Prelude.{Option, Some, None, MatchOption}
+use Rattle.std.specs.Array.{IsFromFnResultFrom, IsFromFnResult}
+use Rattle.rules.specs.Count.{first_below, list_below}
 use Rattle.rules.specs.Limits.{all_processors, max_files}
 use Rattle.rules.specs.Model.{Instance, task_count, Schedule}
 use Rattle.rules.specs.Simulation.{occupies, running_on, held_in, state_at}
-use Rattle.rules.proofs.CountLaws.{any_none, first-passed, none_first, length-list_below, get_or-list_below}
+use Rattle.rules.proofs.CountLaws.{first-passed, none_first, length-list_below, get_or-list_below}
 
--- ---- an array that is filled by index
+-- ---- an array made by a closure f of an index, which answers h and changes nothing
 
--- the first n entries are those of f
-abbrev pub Filled : (ℕ → ℕ) → ℕ → List ℕ → Type 0
-Filled f n l = (k : ℕ) → k < n → get_or l k 0 ≡ f k
+module _ {F : Type 0} (g : Mut F (ℕ × Unit {0}) ℕ) (f : F) (h : ℕ → ℕ) (says : (k y : ℕ) (q : F) → Called g f (k, tt) y q → (q ≡ f) × (y ≡ h k)) where
+  each-is : (ys : List ℕ) (m i : ℕ) → IsFromFnResultFrom g f ys i m → (k : ℕ) → i ≤ k → k < i + m → get_or ys k 0 ≡ h k
+  each-is ys zero i d k l u = absurd (omega arith)
+  each-is ys (suc m) i (q, y, at, call, rest) k l u = elim (ℕ_discrete k i) [
+    | yes e ↦ rw e (at.1 0 ∙ (says i y q call).1)
+    | no n ↦ each-is ys m (i + 1) (subst (λ v. IsFromFnResultFrom g v ys (i + 1) m) (says i y q call).0 rest) k (omega arith) (omega arith)
+  ]
 
-pub filled_next : (f : ℕ → ℕ) (n : ℕ) (l : List ℕ) {v : ℕ} → n < length l → v ≡ f n → Filled f n l → Filled f (n + 1) (set l n v)
-filled_next f n l {v} h e all k m = elim (ℕ_discrete k n) [
-  | yes q ↦ rw q (get_or-set_same l n v 0 h ∙ e)
-  | no q ↦ get_or-set_other l n k v 0 q ∙ all k (omega arith)
-]
-
-filled-all : (f : ℕ → ℕ) (n : ℕ) (l : List ℕ) → length l ≡ n → Filled f n l → l ≡ list_below n f
-filled-all f n l e all =
-    ext_get_or 0 l (list_below n f) (e ∙ sym (length-list_below n f)) (λ k h. all k (omega arith) ∙ sym (get_or-list_below n f k 0 (omega arith)))
+  pub array-is : (ys : List ℕ) (n : ℕ) → IsFromFnResult g f ys n → ys ≡ list_below n h
+  array-is ys n d =
+      ext_get_or 0 ys (list_below n h) (d.long ∙ sym (length-list_below n h))
+      (λ k l. each-is ys n 0 d.each k (omega arith) (omega (arith, d.long)) ∙ sym (get_or-list_below n h k 0 (omega (arith, d.long))))
 
 -- ---- the two lists of a state
 
 module _ (I : Instance) (P : Schedule) (t : ℕ) where
-  pub running-filled : (l : List ℕ) → length l ≡ all_processors → Filled (λ p. running_on I P t (suc p)) all_processors l → l ≡ (state_at I P t).running
+  pub running-is : (l : List ℕ) → l ≡ list_below all_processors (λ p. running_on I P t (suc p)) → l ≡ (state_at I P t).running
   unfolding state_at
-  running-filled l = filled-all (λ p. running_on I P t (suc p)) all_processors l
+  running-is l e = e
 
-  pub contents-filled : (l : List ℕ) → length l ≡ max_files → Filled (held_in I P t) max_files l → l ≡ (state_at I P t).contents
+  pub contents-is : (l : List ℕ) → l ≡ list_below max_files (held_in I P t) → l ≡ (state_at I P t).contents
   unfolding state_at
-  contents-filled l = filled-all (held_in I P t) max_files l
+  contents-is l e = e
 
-  -- ---- what a processor runs
+  -- ---- what a processor runs, by the lowest task that occupies it
 
-  module _ (p : ℕ) where
-    pub runs-found : {i : ℕ} → i < task_count I → any_below i (occupies I P p t) ≡ false → {x : Bool} → x ≡ occupies I P p t i → x ≡ true
-        → i + 1 ≡ running_on I P t p
-    unfolding running_on
-    runs-found {i} h none e y =
-        let q : i ≡ first_below (task_count I) (occupies I P p t) =
-        first-passed (task_count I) (occupies I P p t) i (omega arith) (λ l. sym e ∙ y) (any_none i (occupies I P p t) none) in
-        rw (← q, lt-ltb i (task_count I) h) (add-one i)
-
-    pub runs_none : any_below (task_count I) (occupies I P p t) ≡ false → 0 ≡ running_on I P t p
-    unfolding running_on
-    runs_none none = rw (none_first (task_count I) (occupies I P p t) (any_none (task_count I) (occupies I P p t) none))
+  pub runs-first : (p n : ℕ) (o : Option ℕ) {r : ℕ} → task_count I ≡ n → MatchOption o (r ≡ 0) (λ i. r ≡ i + 1)
+      → MatchOption o ((k : ℕ) → 0 ≤ k → k < n → occupies I P p t k ≡ false)
+      (λ i. (0 ≤ i) × (i < n) × (occupies I P p t i ≡ true) × ((k : ℕ) → 0 ≤ k → k < i → occupies I P p t k ≡ false)) → r ≡ running_on I P t p
+  unfolding running_on
+  runs-first p n None m e none = rw (e, none_first (task_count I) (occupies I P p t) (λ k l. none k (omega arith) (omega arith)))
+  runs-first p n (Some i) m e (z, h, met, none) =
+      let u : i < task_count I = omega arith in
+      let q : i ≡ first_below (task_count I) (occupies I P p t) =
+      first-passed (task_count I) (occupies I P p t) i (omega arith) (λ l. met) (λ k l. none k (omega arith) l) in
+      rw (e, ← q, lt-ltb i (task_count I) u) (add-one i)

@@ -6,6 +6,7 @@ ghost use Rattle.model.specs.Jobs.{instance_in, schedule_in};
 use model::colour::Colour;
 use model::timetable::Timetable;
 use rules::Board;
+use std::array;
 
 // Whether task i occupies the processor at the tick.
 fn occupies_at(t: &Timetable, tick: u64, processor: u64, i: usize) -> bool
@@ -22,23 +23,16 @@ fn occupies_at(t: &Timetable, tick: u64, processor: u64, i: usize) -> bool
 fn running_on(t: &Timetable, tick: u64, processor: u64) -> u64
     ensures { result ≡ running_on (instance_in t.now.job) (schedule_in t.now) tick processor }
 {
-    for i in 0..t.job.tasks.len() {
-        if occupies_at(t, tick, processor, i) {
-            return i as u64 + 1;
-        }
-    }
-    0
+    (0..t.job.tasks.len())
+        .find(|i| occupies_at(t, tick, processor, *i))
+        .map_or(0, |i| i as u64 + 1)
 }
 
 // What each processor runs at the tick.
 pub fn running_at(t: &Timetable, tick: u64) -> [u64; Board::ALL_PROCESSORS]
     ensures { result ≡ (state_at (instance_in t.now.job) (schedule_in t.now) tick).running }
 {
-    let mut running = [0; Board::ALL_PROCESSORS];
-    for p in 0..Board::ALL_PROCESSORS {
-        running[p] = running_on(t, tick, p as u64 + 1);
-    }
-    running
+    array::from_fn(|p| running_on(t, tick, p as u64 + 1))
 }
 
 // The number that says which memories hold a file: the C interface gives it.
@@ -69,9 +63,5 @@ fn held_in(t: &Timetable, tick: u64, k: usize) -> u64
 pub fn contents_at(t: &Timetable, tick: u64) -> [u64; Board::MAX_FILES]
     ensures { result ≡ (state_at (instance_in t.now.job) (schedule_in t.now) tick).contents }
 {
-    let mut contents = [0; Board::MAX_FILES];
-    for k in 0..Board::MAX_FILES {
-        contents[k] = held_in(t, tick, k);
-    }
-    contents
+    array::from_fn(|k| held_in(t, tick, k))
 }

@@ -13,9 +13,8 @@ use Rattle.rules.specs.Staircase.{Step, step_at, Staircase, steps_after, steps_a
 use Rattle.rules.proofs.Tests.{by_order}
 use Rattle.rules.proofs.ChangeLaws.{sum-append, fallen}
 use Rattle.rules.proofs.StaircaseLaws.{free_after_all, all_after, rise-room, stairs-after}
-use Rattle.staircase.specs.Steps.{max_free, Ascending, Fits}
+use Rattle.staircase.specs.Steps.{max_free, Fits}
 use Rattle.staircase.specs.Stairs.{risen, Pending, Made}
-use Rattle.staircase.proofs.StepLaws.{after_count}
 
 -- ---- the next change
 
@@ -36,13 +35,9 @@ module _ {xs : List Change} {ss : List Step} (Q : Pending xs ss) where
   }
 
 -- what `change` requires
-pub pending-requires : {x : Change} {xs : List Change} {ss : List Step} → Pending (x ∷ xs) ss → (length ss < max_pairs) × Ascending ss × Fits ss x
+pub pending-requires : {x : Change} {xs : List Change} {ss : List Step} → Pending (x ∷ xs) ss → (length ss < max_pairs) × Fits ss x
 unfolding sum_over
-pending-requires {x} {xs} Q = (
-  omega (arith, Q.slots),
-  record { first = Q.staircase.first; up = Q.staircase.ascending },
-  fits Q x (λ t. omega (arith, Q.most t)) (rise-room x xs Q.free Q.room),
-)
+pending-requires {x} {xs} Q = (omega (arith, Q.slots), fits Q x (λ t. omega (arith, Q.most t)) (rise-room x xs Q.free Q.room))
 
 -- ---- changes made
 
@@ -51,9 +46,9 @@ unfolding steps_after_all
 made_none ss = record { steps = refl; count = omega arith }
 
 -- what `change` ensures
-pub made_one : (x : Change) (ss : List Step) {ss' : List Step} → ss' ≡ steps_after x ss → Made (x ∷ []) ss ss'
+pub made_one : (x : Change) (ss : List Step) {ss' : List Step} → ss' ≡ steps_after x ss → length ss' ≤ length ss + 1 → Made (x ∷ []) ss ss'
 unfolding steps_after_all
-made_one x ss e = record { steps = e; count = omega (arith, ap length e, after_count x ss) }
+made_one x ss e l = record { steps = e; count = omega (arith, l) }
 
 after-append : (xs ys : List Change) (ss : List Step) → steps_after_all (xs ++ ys) ss ≡ steps_after_all ys (steps_after_all xs ss)
 unfolding steps_after_all

@@ -4,6 +4,8 @@
 pub mod ReadLaws
 -- the steps after a change
 pub mod StepLaws
+-- and that they ascend
+pub mod AscendingLaws
 -- several changes: pending-requires, pending-front, pending-after; made_none, made_one, made_then
 pub mod ChangesLaws
 -- a memory's staircase: holds_read, holds-ticks, holds-start; pending-placing, holds-placed

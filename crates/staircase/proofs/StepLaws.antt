@@ -15,7 +15,7 @@ use Rattle.rules.proofs.Tests.{split}
 use Rattle.rules.specs.Changes.{Change}
 use Rattle.rules.specs.Staircase.{Step as Pair, step_at, free_by, steps_shifted, step_if_new, steps_behind, steps_after}
 use Rattle.staircase.specs.declared.Step.{Step}
-use Rattle.staircase.specs.Steps.{as_step, as_steps, no_step, with_change, Ascending, Fits, Fit, Position, max_free}
+use Rattle.staircase.specs.Steps.{as_step, as_steps, no_step, with_change, Fit, Here, Position, max_free}
 use Rattle.staircase.proofs.ReadLaws.{tick-is, free-is}
 
 -- ---- the rules' steps, in front of the change's tick and from there on
@@ -146,15 +146,6 @@ changed_as x p xs = rw (map-append as_step (take p xs) (map (with_change x.amoun
 
 -- ---- the change x of the steps xs, with p behind the last step before its tick
 
-pub record Here (x : Change) (p : ℕ) (xs : List Step) : Type 0 where
-  pub one : 0 < length xs
-  pub ascending : Ascending (as_steps xs)
-  pub fits : Fits (as_steps xs) x
-  pub position : Position (as_steps xs) x.tick p
-
-pub here : (x : Change) (p : ℕ) (xs : List Step) {ss : List Pair} → as_steps xs ≡ ss → 0 < length xs → Ascending ss → Fits ss x → Position ss x.tick p → Here x p xs
-here x p xs e l u f q = record { one = l; ascending = rw (← e) at u; fits = rw (← e) at f; position = rw (← e) at q }
-
 module _ {x : Change} {p : ℕ} {xs : List Step} (H : Here x p xs) where
   abbrev ss : List Pair
   ss = as_steps xs
@@ -198,7 +189,7 @@ module _ {x : Change} {p : ℕ} {xs : List Step} (H : Here x p xs) where
   -- at tick 0
   pub from_first : p ≡ 0 → as_steps (changed_from x p xs) ≡ steps_after x ss
   from_first e =
-      let z : x.tick ≡ 0 = omega (arith, at.after 0 (omega arith) (omega (arith, size, H.one)), H.ascending.first) in
+      let z : x.tick ≡ 0 = omega (arith, at.after 0 (omega arith) H.ascending.one, H.ascending.first) in
       rw (e, changed_as x 0 xs, all_change x ss z)
 
   abbrev T : List Step

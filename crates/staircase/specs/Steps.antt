@@ -37,6 +37,7 @@ max_free = memory_limits.most + 2 * (max_files * file_sizes.most + work_sizes.mo
 
 -- a first step at tick 0, ascending
 pub record Ascending (xs : List Pair) : Type 0 where
+  pub one : 0 < length xs
   pub first : (step_at xs 0).tick ≡ 0
   pub up : (k : ℕ) → suc k < length xs → (step_at xs k).tick < (step_at xs (suc k)).tick
 
@@ -56,6 +57,12 @@ pub record Position (xs : List Pair) (tick p : ℕ) : Type 0 where
   pub within : p ≤ length xs
   pub before : (k : ℕ) → suc k ≡ p → (step_at xs k).tick < tick
   pub after : (k : ℕ) → p ≤ k → k < length xs → tick ≤ (step_at xs k).tick
+
+-- what a change of steps is made from: p is behind the last one before its tick
+pub record Here (x : Change) (p : ℕ) (xs : List Step) : Type 0 where
+  pub ascending : Ascending (as_steps xs)
+  pub fits : Fits (as_steps xs) x
+  pub position : Position (as_steps xs) x.tick p
 
 -- ---- a reading
 

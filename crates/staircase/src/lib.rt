@@ -6,12 +6,12 @@ mod steps;
 ghost use Rattle.std.specs.Prelude.{◌≡◌, ℕ, ◌+◌, ◌<◌, ◌≤◌, length, get_or, IfSome};
 ghost use Rattle.rules.specs.Limits.{max_pairs};
 ghost use Rattle.rules.specs.Staircase.{step_at, steps_after, free_from_steps, least_free};
-ghost use Rattle.staircase.specs.Steps.{start_steps, change_by, as_option, Ascending, Fits, Position};
+ghost use Rattle.staircase.specs.Steps.{start_steps, change_by, as_option, Fits, Position};
 
 use arrayvec::ArrayVec;
 use rules::Board;
 use std::marker::Model;
-use steps::{behind_last, change_all, free_after, settled, stands_at, tick_of};
+use steps::{behind_last, change_at, settled, tick_of};
 
 // Limits.max_pairs: the most steps of a staircase.
 pub const PAIRS: usize = 1 + 2 * (Board::MAX_FILES + Board::MAX_TASKS);
@@ -23,22 +23,22 @@ pub struct Step {
     pub free: u64,
 }
 
-// At least one step. A contract sees the rules' list of pairs.
+// At least one step, the first at tick 0, and ascending. A contract sees the rules' list of pairs.
 #[derive(Drop)]
 pub struct Staircase {
     steps: ArrayVec<Step, PAIRS>,
 }
 
 impl Model for Staircase {
-    ghost use Rattle.std.specs.Prelude.{List, ◌<◌, length};
+    ghost use Rattle.std.specs.Prelude.{List};
     ghost use Rattle.rules.specs.Staircase.{Step as Pair};
-    ghost use Rattle.staircase.specs.Steps.{as_steps};
+    ghost use Rattle.staircase.specs.Steps.{as_steps, Ascending};
 
     ghost Value = { List Pair };
 
     ghost view = { λ s. as_steps s.steps.items };
 
-    ghost invariant = { λ s. 0 < length s.steps.items };
+    ghost invariant = { λ s. Ascending (as_steps s.steps.items) };
 }
 
 // Starts 3 and 4.
@@ -68,29 +68,15 @@ impl Staircase {
         behind_last(&self.steps, |step| step.tick < tick)
     }
 
-    // The staircase after a rise or a fall of what is held.
+    // The staircase after a rise or a fall of what is held. A struct of the three would be no plainer: `change_all` takes two of them.
     pub fn change(&mut self, tick: u64, amount: u64, rises: bool)
         requires room { length self.old < max_pairs }
-        requires ascending { Ascending self.old }
         requires fits { Fits self.old (change_by tick amount rises) }
-        ensures { self.new ≡ steps_after (change_by tick amount rises) self.old }
+        ensures value { self.new ≡ steps_after (change_by tick amount rises) self.old }
+        ensures upper_bound { length self.new ≤ length self.old + 1 }
     {
         let p = self.position(tick);
-        change_all(&mut self.steps.as_mut_slice()[p..], amount, rises);
-        if p == 0 {
-            return;
-        }
-        let before = self.steps[p - 1].free;
-        if stands_at(&self.steps, p, tick) {
-            if self.steps[p].free == before {
-                self.steps.remove(p);
-            }
-            return;
-        }
-        let free = free_after(before, amount, rises);
-        if free != before {
-            self.steps.insert(p, Step { tick, free });
-        }
+        change_at(&mut self.steps, p, tick, amount, rises);
     }
 
     // Starts 3 and 4 in one walk: from when on `all` is free, and from when on `some` of it.

@@ -1,12 +1,14 @@
-// Steps of a staircase: all of some changed, and the first of those that stay at an amount.
+// Steps of a staircase: those after a change, and the first of those that stay at an amount.
 ghost use Rattle.std.specs.Prelude.{◌≡◌, true, false, ℕ, suc, ◌+◌, ◌<◌, ◌≤◌, map, length, get_or, option_map, IfSome, ◌≢◌};
 ghost use Rattle.std.specs.Fn.{FnReturnsAt};
 ghost use Rattle.std.specs.Option.{unwrap_or};
 ghost use Rattle.rules.specs.Count.{settled_from};
-ghost use Rattle.rules.specs.Staircase.{free_by, suffices};
-ghost use Rattle.staircase.specs.Steps.{as_steps, no_step, change_by, max_free, with_change, Fit};
+ghost use Rattle.rules.specs.Limits.{max_pairs};
+ghost use Rattle.rules.specs.Staircase.{free_by, suffices, steps_after};
+ghost use Rattle.staircase.specs.Steps.{as_steps, no_step, change_by, max_free, with_change, Fit, Here};
 
-use super::Step;
+use super::{PAIRS, Step};
+use arrayvec::ArrayVec;
 
 // The amount free after a change of what is held.
 pub fn free_after(free: u64, amount: u64, rises: bool) -> u64
@@ -33,6 +35,29 @@ pub fn stands_at(steps: &[Step], p: usize, tick: u64) -> bool
     ensures no { result ≡ false → p < length steps.now → (get_or steps.now p no_step).tick ≢ tick }
 {
     p < steps.len() && steps[p].tick == tick
+}
+
+// The steps after a change at `tick`, with p behind the last step that is before it.
+pub fn change_at(steps: &mut ArrayVec<Step, PAIRS>, p: usize, tick: u64, amount: u64, rises: bool)
+    requires room { length steps.old.items < max_pairs }
+    requires here { Here (change_by tick amount rises) p steps.old.items }
+    ensures { as_steps steps.new.items ≡ steps_after (change_by tick amount rises) (as_steps steps.old.items) }
+{
+    change_all(&mut steps.as_mut_slice()[p..], amount, rises);
+    if p == 0 {
+        return;
+    }
+    let before = steps[p - 1].free;
+    if stands_at(steps, p, tick) {
+        if steps[p].free == before {
+            steps.remove(p);
+        }
+        return;
+    }
+    let free = free_after(before, amount, rises);
+    if free != before {
+        steps.insert(p, Step { tick, free });
+    }
 }
 
 // Behind the last step that meets the test, or 0.

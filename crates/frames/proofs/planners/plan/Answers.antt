@@ -1,22 +1,16 @@
 -- `plan` meets its contract: an accepted sheet is planned, any other refused; the answer and the buffer are the definition's, and so keep the demands.
+use mathlib.Core.Path.{sym, ◌∙◌}
 use Rattle.frames.specs.Planners.{as_planner}
-use Rattle.instance.proofs.AcceptedLaws.{well-formed, accepted-bounds}
 use Rattle.frames.proofs.DemandLaws.{planner-demands, aware-demands, plain-demands, two-trials}
-use Rattle.frames.proofs.PlanLaws.{planned-on, unread}
+use Rattle.frames.proofs.PlanLaws.{plan-on, unread}
 use Rattle.frames.proofs.planners.plan.Goals as goal
-
-pub invariant_of-plan_instance : goal.invariant_of-plan_instance
-invariant_of-plan_instance c = record { in_bounds = accepted-bounds c.args.sheet.now c.in-Ok.shape c.read.new.job c.in-Ok.ensures }
-
-pub plan_instance-requires : goal.plan_instance-requires
-plan_instance-requires c = well-formed c.args.sheet.now c.in-Ok.shape c.read.new.job c.in-Ok.ensures
 
 pub returns-in-Err : goal.returns-in-Err
 returns-in-Err c =
     let R = as_planner c.args.planner in
     let sheet = c.args.sheet.now in
     let out = c.args.out.now in
-    let e = unread R sheet out c.read.new.job c.in-Err.refusal c.in-Err.ensures in record {
+    let e = unread R sheet out c.in-Err.refusal c.in-Err.ensures.answer in record {
       answer = e;
       planner_demands = planner-demands R sheet out e;
       aware_demands = λ m. aware-demands R sheet out m e;
@@ -29,7 +23,7 @@ returns-in-Ok c =
     let R = as_planner c.args.planner in
     let sheet = c.args.sheet.now in
     let out = c.args.out.now in
-    let e = planned-on R sheet out c.read.new.job c.in-Ok.shape c.in-Ok.ensures (rw c.rule.ensures at c.plan_instance.ensures) in record {
+    let e = (rw c.rule.ensures at c.plan_instance.ensures) ∙ sym (plan-on R sheet out _ c.in-Ok.ensures.answer) in record {
       answer = e;
       planner_demands = planner-demands R sheet out e;
       aware_demands = λ m. aware-demands R sheet out m e;

@@ -1,23 +1,15 @@
--- The walk has come to a file of the chain, or to its end, and no file below it is missing.
-use lib.ListN.{length}
-use Prim.Native.Nat.{◌≤◌, ◌-◌}
+-- No file before the next one is missing.
 use mathlib.Core.Bool.{false}
 use mathlib.Core.Path.{◌≡◌}
 use Rattle.rules.specs.Count.{any_below}
-use Rattle.rules.specs.Scheduling.{reads, missing}
+use Rattle.rules.specs.Scheduling.{missing}
 use Rattle.model.specs.Jobs.{instance_in, schedule_of}
-use Rattle.links.specs.Chains.{index_or}
-use Rattle.links.proofs.WalkLaws.{At}
+use Rattle.links.specs.declared.chains.End.TheVariants.{Reader}
+use Rattle.links.specs.Files.{place, Of}
 use Rattle.needs.proofs.readiness.ready.Given as goal
 
-abbrev pub invariant-loop-at : goal.invariant-loop-at
-invariant-loop-at l =
-    let n = (length l.links.job.files.now) in
-    let I = instance_in l.links.job in record {
-      at : At n (reads I l.task) l.at;
-      within : index_or n l.at ≤ n;
-      none : any_below (index_or n l.at) (missing I (schedule_of l.links.job l.schedule) l.task) ≡ false;
-    }
-
-abbrev pub decreases-loop-at : goal.decreases-loop-at
-decreases-loop-at l = (length l.links.job.files.now) - index_or (length l.links.job.files.now) l.at
+abbrev pub invariant-loop-k : goal.invariant-loop-k
+invariant-loop-k l = record {
+  of : Of l.links.job Reader l.task l.k-iterator;
+  none : any_below (place l.k-iterator) (missing (instance_in l.links.job) (schedule_of l.links.job l.schedule) l.task) ≡ false;
+}

@@ -1,38 +1,29 @@
-use lib.ListN.{length}
 use native.Mathlib.Omega.{arith}
-use Prim.Native.Nat.{◌<◌}
-use Rattle.model.specs.Jobs.{instance_in}
-use Rattle.links.specs.Chains.{has_at}
-use Rattle.links.proofs.WalkLaws.{next-at, next-in, come, ended}
+use Rattle.links.proofs.WalkLaws.{begins, turn, ended, place-within}
 use Rattle.needs.proofs.SizeLaws.{sizes-first, sizes-next, sizes-all}
 use Rattle.needs.proofs.table.sizes.Goals as goal
 
-pub loop-at-init : goal.loop-at-init
-loop-at-init c =
-    let j = c.args.links.now.job in
-    let next = next-in j c.first-at.ensures in record {
-      at = next-at next;
-      within = next.next.within;
-      most = omega arith;
-      sum = sizes-first j (has_at c.args.end (instance_in j) c.args.task) next.next;
+pub loop-k-init : goal.loop-k-init
+loop-k-init c =
+    let b = begins c.files-k-items.ensures c.into_iter-k-iterator.ensures.into_iter_gives in
+    record { of = b.of; most = omega arith; sum = sizes-first c.args.links.now.job _ b.first }
+
+pub size-sum-requires : goal.size-sum-requires
+size-sum-requires c = (turn c.loop-k.invariant.of c.next.ensures.steps c.in-Some.is).exists
+
+pub overflow_add-sum : goal.overflow_add-sum
+overflow_add-sum c = omega (arith, place-within c.loop-k.invariant.of, c.args.links.now.job.in_bounds.files)
+
+pub loop-k-preserved : goal.loop-k-preserved
+loop-k-preserved c =
+    let t = turn c.loop-k.invariant.of c.next.ensures.steps c.in-Some.is in record {
+      of = t.of;
+      most = omega (arith, t.came, t.next.from);
+      sum = sizes-next c.args.links.now.job _ t.next t.holds c.size-sum.ensures.value (rw t.came at c.loop-k.invariant.sum);
     }
 
-pub loop-at-preserved : goal.loop-at-preserved
-loop-at-preserved c =
-    let j = c.args.links.now.job in
-    let n = (length j.files.now) in
-    let k = c.in-Some.k in
-    let h : k < n = c.loop-at.invariant.at.exists k c.in-Some.is in
-    let here = c.loop-at.invariant.at.holds k c.in-Some.is in
-    let now = come n c.in-Some.is in
-    let next = next-in j (c.next-at.ensures c.args.task here) in record {
-      at = next-at next;
-      within = next.next.within;
-      most = omega (arith, c.loop-at.invariant.most, now, next.next.from, c.size-sum.ensures.upper_bound);
-      sum = sizes-next j (has_at c.args.end (instance_in j) c.args.task) next.next here c.size-sum.ensures.value (rw now at c.loop-at.invariant.sum);
-    }
-
-pub returns-clause-value : goal.returns-clause-value
-returns-clause-value c =
-    let j = c.args.links.now.job in
-    sizes-all j (has_at c.args.end (instance_in j) c.args.task) (ended (length j.files.now) c.in_default.is) c.loop-at.invariant.sum
+pub returns : goal.returns
+returns c = record {
+  value = sizes-all c.args.links.now.job _ (ended c.loop-k.invariant.of c.next.ensures.steps c.in-None.is) c.loop-k.invariant.sum;
+  upper_bound = omega (arith, place-within c.loop-k.invariant.of, c.args.links.now.job.in_bounds.files);
+}

@@ -1,45 +1,25 @@
-use lib.ListN.{length}
-use native.Mathlib.Omega.{arith}
-use Prim.Native.Nat.{◌<◌}
-use Rattle.links.proofs.WalkLaws.{next-at, next-in, come, ended}
+use Rattle.links.proofs.WalkLaws.{begins, turn, ended}
 use Rattle.placement.proofs.MemoryLaws.{walk-begin, walk-requires, walk_turn}
 use Rattle.placement.proofs.memory.move_all_in.Goals as goal
 
-pub loop-at-init : goal.loop-at-init
-loop-at-init c =
-    let j = c.args.links.now.job in
-    let next = next-in j c.first-at.ensures in record {
-      at = next-at next;
-      within = next.next.within;
-      made = walk-begin j c.args.schedule.now c.args.trial next.next;
-    }
+pub loop-k-init : goal.loop-k-init
+loop-k-init c =
+    let b = begins c.files-k-items.ensures c.into_iter-k-iterator.ensures.into_iter_gives in
+    record { of = b.of; made = walk-begin c.args.links.now.job c.args.schedule.now c.args.trial b.first }
 
 pub move_in-requires : goal.move_in-requires
 move_in-requires c =
-    let j = c.args.links.now.job in
-    let k = c.in-Some.k in
-    let h : k < (length j.files.now) = c.loop-at.invariant.at.exists k c.in-Some.is in record {
-      k_lt_files = h;
-      pending = walk-requires j c.args.schedule.now c.args.trial (rw (come (length j.files.now) c.in-Some.is) at c.loop-at.invariant.made) h c.requires.pending;
+    let t = turn c.loop-k.invariant.of c.next.ensures.steps c.in-Some.is in record {
+      k_lt_files = t.exists;
+      pending = walk-requires c.args.links.now.job c.args.schedule.now c.args.trial (rw t.came at c.loop-k.invariant.made) t.exists c.requires.pending;
     }
 
-pub loop-at-smaller : goal.loop-at-smaller
-loop-at-smaller c =
-    let j = c.args.links.now.job in
-    let k = c.in-Some.k in
-    let h : k < (length j.files.now) = c.loop-at.invariant.at.exists k c.in-Some.is in
-    let next = next-in j (c.next-at.ensures c.args.trial.task (c.loop-at.invariant.at.holds k c.in-Some.is)) in
-    omega (arith, come (length j.files.now) c.in-Some.is, next.next.from, next.next.within)
-
-pub loop-at-preserved : goal.loop-at-preserved
-loop-at-preserved c =
-    let j = c.args.links.now.job in
-    let k = c.in-Some.k in
-    let next = next-in j (c.next-at.ensures c.args.trial.task (c.loop-at.invariant.at.holds k c.in-Some.is)) in record {
-      at = next-at next;
-      within = next.next.within;
-      made = walk_turn j c.args.schedule.now c.args.trial (rw (come (length j.files.now) c.in-Some.is) at c.loop-at.invariant.made) next.next c.move_in.ensures;
+pub loop-k-preserved : goal.loop-k-preserved
+loop-k-preserved c =
+    let t = turn c.loop-k.invariant.of c.next.ensures.steps c.in-Some.is in record {
+      of = t.of;
+      made = walk_turn c.args.links.now.job c.args.schedule.now c.args.trial (rw t.came at c.loop-k.invariant.made) t.next c.move_in.ensures;
     }
 
 pub returns : goal.returns
-returns c = rw (ended (length c.args.links.now.job.files.now) c.in_default.is) at c.loop-at.invariant.made
+returns c = rw (ended c.loop-k.invariant.of c.next.ensures.steps c.in-None.is) at c.loop-k.invariant.made

@@ -1,47 +1,33 @@
-use lib.ListN.{length}
-use native.Mathlib.Omega.{arith}
-use Prim.Native.Nat.{◌<◌}
 use Rattle.model.specs.Colours.{as_colour}
-use Rattle.links.proofs.WalkLaws.{next-at, next-in, come, ended}
+use Rattle.links.proofs.WalkLaws.{begins, turn, ended}
 use Rattle.placement.proofs.MoveLaws.{moves-none, moves-turn, moves-skip, moves-total}
 use Rattle.placement.proofs.moves.set_moves.Goals as goal
 
-pub loop-at-init : goal.loop-at-init
-loop-at-init c =
+pub loop-k-init : goal.loop-k-init
+loop-k-init c =
     let j = c.args.links.now.job in
-    let next = next-in j c.first-at.ensures in record {
-      at = next-at next;
-      within = next.next.within;
-      moves = moves-skip j _ _ _ _ next.next (moves-none j _ _ _ _ c.requires.schedule_len);
-    }
+    let b = begins c.files-k-items.ensures c.into_iter-k-iterator.ensures.into_iter_gives in
+    record { of = b.of; moves = moves-skip j _ _ _ _ b.first (moves-none j _ _ _ _ c.requires.schedule_len) }
 
-pub loop-at-smaller : goal.loop-at-smaller
-loop-at-smaller c =
-    let j = c.args.links.now.job in
-    let k = c.in-Some.k in
-    let h : k < (length j.files.now) = c.loop-at.invariant.at.exists k c.in-Some.is in
-    let next = next-in j (c.next-at.ensures c.args.trial.task (c.loop-at.invariant.at.holds k c.in-Some.is)) in
-    omega (arith, come (length j.files.now) c.in-Some.is, next.next.from, next.next.within)
+pub move_with-t-requires : goal.move_with-t-requires
+move_with-t-requires c = (turn c.loop-k.invariant.of c.next.ensures.steps c.in-Some.is).exists
 
-pub loop-at-preserved : goal.loop-at-preserved
-loop-at-preserved c =
+pub loop-k-preserved : goal.loop-k-preserved
+loop-k-preserved c =
     let j = c.args.links.now.job in
-    let k = c.in-Some.k in
-    let h : k < (length j.files.now) = c.loop-at.invariant.at.exists k c.in-Some.is in
-    let next = next-in j (c.next-at.ensures c.args.trial.task (c.loop-at.invariant.at.holds k c.in-Some.is)) in
-    let set = c.set_move_start.ensures in record {
-      at = next-at next;
-      within = next.next.within;
-      moves = moves-skip j _ _ _ _ next.next
-          (moves-turn j _ _ _ _ h (rw (come (length j.files.now) c.in-Some.is) at c.loop-at.invariant.moves) c.move_with-t.ensures set.schedule_after set.schedule_len.1);
+    let set = c.set_move_start.ensures in
+    let t = turn c.loop-k.invariant.of c.next.ensures.steps c.in-Some.is in record {
+      of = t.of;
+      moves = moves-skip j _ _ _ _ t.next
+          (moves-turn j _ _ _ _ t.exists (rw t.came at c.loop-k.invariant.moves) c.move_with-t.ensures set.schedule_after set.schedule_len.1);
     }
 
 pub returns : goal.returns
 returns c =
     let j = c.args.links.now.job in
-    let m = c.loop-at.invariant.moves in record {
+    let m = c.loop-k.invariant.moves in record {
       schedule_len_2 = m.size;
       by_index = m.runs;
       schedule_after = moves-total j c.args.schedule.now c.args.trial.task (as_colour c.args.trial.colour) c.args.trial.start
-          (ended (length j.files.now) c.in_default.is) m;
+          (ended c.loop-k.invariant.of c.next.ensures.steps c.in-None.is) m;
     }

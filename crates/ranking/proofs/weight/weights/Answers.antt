@@ -1,4 +1,3 @@
-use lib.ListN.{length}
 use Prim.Native.Nat.{◌-◌}
 use native.Mathlib.Omega.{arith}
 use borrow.Author.Rules.{rules}
