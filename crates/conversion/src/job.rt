@@ -4,7 +4,7 @@ ghost use Rattle.rules.specs.Count.{count_where};
 ghost use Rattle.rules.specs.Limits.{max_tasks, max_files};
 ghost use Rattle.rules.specs.Model.{Instance};
 ghost use Rattle.rules.specs.Conversion.{has_work, added_count, converted};
-ghost use Rattle.model.specs.Layout.{instance_with};
+ghost use Rattle.model.specs.Layout.{no_numbers, instance_with};
 ghost use Rattle.model.specs.Jobs.{instance_in};
 ghost use Rattle.conversion.specs.Stored.{Stored};
 
@@ -12,12 +12,11 @@ use model::colour::Colour;
 use model::job::Job;
 use model::layout::Numbers;
 
-// Leaves the added tasks alone, of times 0 and 0, whatever the target held.
+// The added tasks, of times 0 and 0, behind what the target holds.
 fn add_tasks(added: usize, target: &mut Numbers)
-    requires { added ≤ max_tasks }
-    ensures { (I : Instance) → added ≡ added_count I → Stored I target.new added 0 }
+    requires { length target.old.tasks.items + added ≤ max_tasks }
+    ensures { (I : Instance) → added ≡ added_count I → target.old ≡ no_numbers → Stored I target.new added 0 }
 {
-    target.clear();
     for k in 0..added {
         target.push_task(0, 0, 0);
     }
@@ -89,6 +88,7 @@ pub fn convert(job: &Job<'_>, added: usize, target: &mut Numbers)
     requires tasks_bound { (added + length job.now.tasks.now ≤ max_tasks) × (added + length job.now.files.now ≤ max_files) }
     ensures { instance_with job.now.board target.new ≡ converted (instance_in job.now) }
 {
+    target.clear();
     add_tasks(added, target);
     convert_tasks(job, added, target);
     convert_files(job, added, target);

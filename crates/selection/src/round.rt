@@ -3,6 +3,9 @@ use super::trial::earlier;
 use super::trials::Trials;
 use model::trial::Trial;
 
+// The trials of a ready task: one on each colour.
+const A_TASK: u64 = 2;
+
 // A round's choice, if a ready task fits, and the trials that it took, a task on a colour counting one.
 #[derive(Clone, Copy)]
 pub struct Round {
@@ -31,7 +34,7 @@ impl Trials<'_> {
             if self.needs.of(i).ready {
                 let found = self.both_colours(i);
                 choice = earlier(&self.job, choice, found);
-                trials += 2;
+                trials += A_TASK;
             }
         }
         Round { choice, trials }
@@ -48,7 +51,7 @@ impl Trials<'_> {
         for task in order {
             if self.needs.of(*task).ready {
                 let choice = self.both_colours(*task);
-                trials += 2;
+                trials += A_TASK;
                 if choice.is_some() {
                     return Round { choice, trials };
                 }
