@@ -1,9 +1,9 @@
 -- The processors of a colour among the last finishes, and the one chosen.
 use Rattle.model.specs.Layout.{instance_of}
-use Prim.Native.Nat.{ℕ, ◌+◌, ◌≤◌, ◌<◌, max}
-use mathlib.Core.Bool.{Bool, true, false, cond, ◌&&◌}
+use Prim.Native.Nat.{ℕ, ◌+◌, ◌≤◌, ◌<◌}
+use mathlib.Core.Bool.{Bool, true, false, ◌&&◌}
 use mathlib.Core.List.{List}
-use mathlib.Core.Path.{◌≡◌, refl, sym, ap, ◌∙◌}
+use mathlib.Core.Path.{◌≡◌, refl, ◌∙◌}
 use native.Mathlib.Omega.{arith}
 use lib.Dec.{leb, eqb}
 use Rattle.std.specs.Prelude.{Option, None, Some, IsSome, MatchOption}
@@ -24,7 +24,6 @@ use Rattle.model.specs.Layout.{Entries, count_in, Processors}
 use Rattle.model.specs.Jobs.{instance_in, partial_by}
 use Rattle.model.proofs.LayoutLaws.{processors-of}
 use Rattle.model.proofs.JobLaws.{last-finish-at}
-use Rattle.model.proofs.StepLaws.{max-turn}
 use Rattle.placement.specs.Slots.{slot_in, last_in}
 
 pub slot-exists : (j : Job) (x : Colour) (p : ℕ) → p < count_in j.board x → slot_in j.board x p < j.board.blue.processors + j.board.red.processors
@@ -64,13 +63,6 @@ module _ (j : Job) (xs : List ℕ) (x : Colour) (s : ℕ) where
   -- whether it is, with the latest last finish of those that are
   abbrev pub latest_free_in : ℕ → Bool
   latest_free_in p = free_in p && eqb (last_in j.board xs x p) latest_in
-
-  pub latest-turn : (p r f : ℕ) → f ≡ last_in j.board xs x p → r ≡ cond (leb f s) f 0
-      → max_where (p + 1) free_in (last_in j.board xs x) ≡ max (max_where p free_in (last_in j.board xs x)) r
-  latest-turn p r f e q = max-turn p free_in (last_in j.board xs x) q (ap (λ y. leb y s) e) (sym e)
-
-  pub latest-total : {n : ℕ} → n ≡ count_in j.board x → max_where n free_in (last_in j.board xs x) ≡ latest_in
-  latest-total e = ap (λ n. max_where n free_in (last_in j.board xs x)) e
 
   module _ (L : Entries) where
     abbrev I : Instance

@@ -47,14 +47,11 @@ fn latest_in(job: &Job, finishes: &Finishes, colour: Colour, start: u64) -> u64
     ensures { result ≡ max_where (count_in job.now.board colour)
         (λ p. leb (last_in job.now.board finishes.now colour p) start) (last_in job.now.board finishes.now colour) }
 {
-    let mut most: u64 = 0;
-    for p in 0..count_in(job, colour) {
-        let finish = last_in(job, finishes, colour, p);
-        if finish <= start {
-            most = most.max(finish);
-        }
-    }
-    most
+    (0..count_in(job, colour))
+        .map(|p| last_in(job, finishes, colour, p))
+        .filter(|finish| *finish <= start)
+        .max()
+        .unwrap_or(0)
 }
 
 // Whether a processor with this last finish is free by the start, and the finish is the latest of these.

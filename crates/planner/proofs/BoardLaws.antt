@@ -1,7 +1,7 @@
 -- A planner's own board: what it plans there is what it plans on the sheet's board.
 use Rattle.model.specs.Layout.{instance_of}
 use Prim.Native.Nat.{ℕ}
-use mathlib.Core.Path.{◌≡◌, refl, sym, ap, ◌∙◌}
+use mathlib.Core.Path.{◌≡◌, refl, ap, ◌∙◌}
 use native.Mathlib.Omega.{arith}
 use Rattle.rules.specs.declared.Board.{Board}
 use Rattle.rules.specs.Model.{Instance, Schedule}

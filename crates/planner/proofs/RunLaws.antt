@@ -62,8 +62,8 @@ module _ (j : Job) (W : WellFormed (instance_in j)) (L : Entries) (last : List �
 
   pub sound-bounds : ScheduleBounds (length j.tasks.now) (length j.files.now) L
   sound-bounds = record {
-      start = λ i h. omega (arith, ap (λ r. r.start) (run-in j L i h), S.start_bound i, few);
-      move_start = λ k h. omega (arith, move-in j L k h, move_bound (instance_in j) placed (partial_by j L last) S k (omega (arith, files-in j)), few);
+    start = λ i h. omega (arith, ap (λ r. r.start) (run-in j L i h), S.start_bound i, few);
+    move_start = λ k h. omega (arith, move-in j L k h, move_bound (instance_in j) placed (partial_by j L last) S k (omega (arith, files-in j)), few);
   }
 
   pub sound-ticks : (c : RulesColour) {ss : List Step} → HoldsStairs (instance_in j) (schedule_by j L) c ss → TicksWithin ss

@@ -23,12 +23,8 @@ fn latest_finish(job: &Job, finishes: &Finishes) -> u64
     ensures { (L : Entries) → result ≡
         max_below (processor_count (instance_in job.now)) (λ p. get_or (partial_by job.now L finishes.now).last_finish p 0) }
 {
-    let board = job.board;
-    let mut most: u64 = 0;
-    for p in 0..(board.blue.processors + board.red.processors) as usize {
-        most = most.max(finishes.of(p));
-    }
-    most
+    let count = (job.board.blue.processors + job.board.red.processors) as usize;
+    (0..count).map(|p| finishes.of(p)).max().unwrap_or(0)
 }
 
 // The greatest amount held under a limit: what is not free where the least is.

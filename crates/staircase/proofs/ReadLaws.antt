@@ -1,7 +1,7 @@
 -- Reading the steps from the end, and the least of their amounts.
-use Prim.Native.Nat.{ℕ, zero, suc, ◌+◌, ◌≤◌, ◌<◌, min, pred}
+use Prim.Native.Nat.{ℕ, zero, suc, ◌+◌, ◌≤◌, ◌<◌, min}
 use mathlib.Core.Bool.{Bool, true, false}
-use mathlib.Core.List.{List, [], ◌∷◌}
+use mathlib.Core.List.{List, [], ◌∷◌, map}
 use mathlib.Core.Path.{◌≡◌, refl, sym, ◌∙◌, ap}
 use mathlib.Core.Option as Rules
 use native.Mathlib.Omega.{arith}
@@ -12,11 +12,13 @@ use Rattle.std.specs.Prelude.{Option, None, Some, IfSome}
 use Rattle.std.specs.Prelude.{option_map}
 use Rattle.std.specs.Option.{unwrap_or, option_or}
 use Rattle.std.specs.Bool.{then_some}
+use Rattle.std.specs.List.{fold, reduce}
+use Rattle.std.proofs.lemmas.Iterator.Adapters.{option_map_id}
 use Rattle.std.proofs.lemmas.List.{length-map, get_or-take, length-take-le}
 use Rattle.rules.specs.Count.{settled_from, min_up_to}
 use Rattle.rules.specs.Staircase.{Step as Pair, step_at, suffices, free_from_steps, least_free}
 use Rattle.rules.proofs.Tests.{by_order, clash}
-use Rattle.rules.proofs.CountLaws.{settled-bound, settled-holds, settled-least, settled-again, min-cong}
+use Rattle.rules.proofs.CountLaws.{settled-bound, settled-holds, settled-least, settled-again}
 use Rattle.staircase.specs.declared.Step.{Step}
 use Rattle.staircase.specs.Steps.{as_step, as_steps, no_step, as_option, Position}
 
@@ -113,19 +115,24 @@ positioned now tick r e f l met unmet = rw (← f, ← e) (record {
 
 -- ---- the least amount
 
-module _ (xs : List Step) where
-  abbrev pub amount : ℕ → ℕ
-  amount k = (get_or xs k no_step).free
+-- of the steps behind index k, from the least of those up to it
+least-fold : (xs : List Step) (f : ℕ → ℕ) (k a : ℕ) → a ≡ min_up_to k f → ((i : ℕ) → (step_at (as_steps xs) i).free ≡ f (suc (k + i)))
+    → fold min a (map (λ s. s.free) xs) ≡ min_up_to (k + length xs) f
+unfolding min_up_to
+least-fold [] f k a e h = let z : k + 0 ≡ k = omega arith in rw (z, e)
+least-fold (x ∷ xs) f k a e h =
+    let z : k + suc (length xs) ≡ suc k + length xs = omega arith in
+    let here : x.free ≡ f (suc k) = h 0 ∙ ap f (omega arith) in
+    rw z (least-fold xs f (suc k) (min a x.free) (rw (e, here)) (λ i. h (suc i) ∙ ap f (omega arith)))
 
-  pub least_first : amount 0 ≡ min_up_to (pred 0) amount
-  unfolding min_up_to
-  least_first = refl
+least-of : (xs : List Step) → 0 < length xs → unwrap_or (reduce min (map (λ s. s.free) xs)) 0 ≡ least_free (as_steps xs)
+unfolding least_free min_up_to
+least-of [] l = absurd (omega arith)
+least-of (x ∷ xs) l =
+    let z : 0 + length xs ≡ length xs = omega arith in
+    rw (length-map xs as_step) (rw z at (least-fold xs (λ k. (step_at (as_steps (x ∷ xs)) k).free) 0 x.free refl (λ i. ap (λ k. (step_at (as_steps xs) k).free) (omega arith))))
 
-  pub least-turn : (i : ℕ) → min_up_to (pred (i + 1)) amount ≡ min (min_up_to (pred i) amount) (amount i)
-  unfolding min_up_to
-  least-turn zero = omega arith
-  least-turn (suc i) = let e : pred (suc i + 1) ≡ suc i = omega arith in rw e
-
-  pub least_steps : min_up_to (pred (length xs)) amount ≡ least_free (as_steps xs)
-  unfolding least_free
-  least_steps = rw (length-map xs as_step) (min-cong (pred (length xs)) amount (λ k. (step_at (as_steps xs) k).free) (λ k m. sym (free-is xs k)))
+-- what `map(free).min().unwrap_or(0)` gives of them
+pub least-found : (xs : List Step) {ss : List Pair} → as_steps xs ≡ ss → 0 < length xs → (o : Option ℕ) → option_map (λ x. x) o ≡ reduce min (map (λ s. s.free) xs)
+    → unwrap_or o 0 ≡ least_free ss
+least-found xs v l o e = rw (← v) (ap (λ o. unwrap_or o 0) (sym (option_map_id o) ∙ e) ∙ least-of xs l)

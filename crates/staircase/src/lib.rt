@@ -101,11 +101,6 @@ impl Staircase {
     pub fn least(&self) -> u64
         ensures { result ≡ least_free self.now }
     {
-        let steps = self.steps.as_slice();
-        let mut low = steps[0].free;
-        for step in steps {
-            low = low.min(step.free);
-        }
-        low
+        self.steps.iter().map(|step| step.free).min().unwrap_or(0)
     }
 }

@@ -1,12 +1,11 @@
 -- Start 1 over the array of last finishes, starts 3 and 4, and all of them together.
 use Rattle.model.specs.Layout.{instance_of}
 use Rattle.model.specs.Jobs.{instance_in, partial_by}
-use Prim.Native.Nat.{ℕ, suc, ◌+◌, ◌<◌, ◌≤◌, min, max, pred}
+use Prim.Native.Nat.{ℕ, ◌+◌, ◌<◌, ◌≤◌, max, pred}
 use mathlib.Core.List.{List}
 use mathlib.Core.Option.{none, some}
 use mathlib.Core.Path.{◌≡◌, refl, sym, ◌∙◌, ap}
 use native.Mathlib.Omega.{arith}
-use native.Mathlib.Nat.{add-zero}
 use lib.ListN.{get_or}
 use Rattle.rules.specs.Count.{min_up_to}
 use Rattle.rules.specs.Model.{Instance, work_at, Schedule}
@@ -66,20 +65,8 @@ module _ (I : Instance) (P : Schedule) (c : Model.Colour) (m : Memory) (i : ℕ)
 
 -- ---- start 1
 
-module _ (last : List ℕ) (first : ℕ) where
-  abbrev at : ℕ → ℕ
-  at p = get_or last (first + p) 0
-
-  pub least_first : get_or last first 0 ≡ min_up_to (pred 1) at
-  unfolding min_up_to
-  least_first = rw (add-zero first)
-
-  pub least-turn : (i : ℕ) → 1 ≤ i → min_up_to (pred (i + 1)) at ≡ min (min_up_to (pred i) at) (get_or last (first + i) 0)
-  unfolding min_up_to
-  least-turn i h =
-      let e : pred (i + 1) ≡ suc (pred i) = omega arith in
-      let g : suc (pred i) ≡ i = omega arith in
-      rw e (ap (λ j. min (min_up_to (pred i) at) (at j)) g)
+abbrev at : List ℕ → ℕ → ℕ → ℕ
+at last first p = get_or last (first + p) 0
 
 module _ (j : Job) (L : Entries) (last : List ℕ) where
   abbrev I : Instance

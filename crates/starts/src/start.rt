@@ -27,11 +27,10 @@ pub fn processor_start(job: &Job, finishes: &Finishes, colour: Colour) -> u64
     let blue = job.board.blue.processors;
     let first = by_colour(colour, 0, blue) as usize;
     let count = by_colour(colour, blue, job.board.red.processors) as usize;
-    let mut least = finishes.of(first);
-    for p in 1..count {
-        least = least.min(finishes.of(first + p));
-    }
-    least
+    (0..count)
+        .map(|p| finishes.of(first + p))
+        .min()
+        .unwrap_or(0)
 }
 
 // The earliest start of a ready task with this need on the colour, if the colour fits; `idle` is start 1, the staircase is the colour's own.

@@ -1,31 +1,24 @@
-use Rattle.placement.proofs.SlotLaws.{latest-turn, latest-total}
-use mathlib.Core.Path.{refl, sym, ◌∙◌}
-use native.Mathlib.Omega.{arith}
-use borrow.Author.Tests.{le-leb, lt-leb}
-use Rattle.model.proofs.StepLaws.{max_none}
+-- `latest_in` meets its contract: the greatest of those in the range that pass is that of the rules' list.
+use Prim.Native.Nat.{ℕ}
+use mathlib.Core.Path.{◌∙◌}
+use borrow.Author.Tests.{tests}
+use lib.Dec.{leb}
+use Rattle.std.proofs.Common.{arith, rules}
+use Rattle.std.proofs.lemmas.Iterator.{YieldsList-from_range, YieldsList-from_map}
+use Rattle.std.proofs.lemmas.Iterator.Consumers.{YieldsList-at, YieldsList-from_filter, max_from_yields_List}
+use Rattle.model.proofs.RangeLaws.{max-range-where}
+use Rattle.model.specs.Layout.{count_in}
+use Rattle.placement.specs.Slots.{last_in}
 use Rattle.placement.proofs.processor.latest_in.Goals as goal
-use Rattle.placement.proofs.processor.latest_in.Goals.{then-finish-start, else-finish-start}
-
-pub loop-p-init : goal.loop-p-init
-loop-p-init c = (c.count_in-p-end.ensures, sym (max_none _))
-
-pub loop-p-preserved : goal.loop-p-preserved
-loop-p-preserved c =
-    let j = c.args.job.now in
-    let xs = c.args.finishes.now in
-    let f = c.last_in-finish.result in
-    elim c.if-finish-start.branch [
-      | then-finish-start w ↦ omega (
-        arith,
-        latest-turn j xs c.args.colour c.args.start c.loop-p.p f f c.last_in-finish.ensures (rw (le-leb f c.args.start w.if-finish-start.true) refl),
-      )
-      | else-finish-start w ↦ omega (
-        arith,
-        latest-turn j xs c.args.colour c.args.start c.loop-p.p 0 f c.last_in-finish.ensures (rw (lt-leb f c.args.start w.if-finish-start.false) refl),
-      )
-    ]
 
 pub returns : goal.returns
 returns c =
-    c.loop-p.invariant.1
-    ∙ latest-total c.args.job.now c.args.finishes.now c.args.colour c.args.start (omega (arith, c.loop-p.invariant.0))
+    let j = c.args.job.now in
+    let n : ℕ = count_in j.board c.args.colour in
+    let f : ℕ → ℕ = λ p. last_in j.board c.args.finishes.now c.args.colour p in
+    let found = max_from_yields_List c.filter.result c.max.result c.max.ensures.ran
+    (YieldsList-from_filter _ (λ x. leb x c.args.start)
+    (YieldsList-at c.filter.ensures.source
+    (YieldsList-from_map _ f (YieldsList-from_range 0 n n (cc) (omega arith)) c.map.ensures.closure (λ x b q k. search (rules, tests))))
+    c.filter.ensures.closure (λ x b q k. search (rules, tests))) in
+    c.unwrap_or.ensures ∙ max-range-where f (λ x. leb x c.args.start) n c.max.result found

@@ -1,20 +1,20 @@
-use mathlib.Core.Path.{refl, sym, ◌∙◌}
-use native.Mathlib.Omega.{arith}
+-- `latest_finish` meets its contract: the greatest of the range is that of the rules' list.
+use Prim.Native.Nat.{ℕ, ◌+◌}
+use mathlib.Core.Path.{refl, ◌∙◌}
+use borrow.Author.Tests.{tests}
 use lib.ListN.{get_or}
-use Rattle.model.proofs.StepLaws.{max_none, max-next}
+use Rattle.std.proofs.Common.{arith, rules}
+use Rattle.std.proofs.lemmas.Iterator.{YieldsList-from_range, YieldsList-from_map}
+use Rattle.std.proofs.lemmas.Iterator.Consumers.{max_from_yields_List}
+use Rattle.model.proofs.RangeLaws.{max-range}
 use Rattle.planner.proofs.ClaimLaws.{latest-last}
 use Rattle.planner.proofs.claim.latest_finish.Goals as goal
-
-pub loop-p-init : goal.loop-p-init
-loop-p-init c = (refl, sym (max_none _))
-
-pub loop-p-preserved : goal.loop-p-preserved
-loop-p-preserved c = (
-  c.loop-p.invariant.0,
-  omega (arith, c.max-most.ensures, c.of.ensures.value, c.loop-p.invariant.1, max-next (λ q. get_or c.args.finishes.now q 0) c.loop-p.p),
-)
 
 pub returns : goal.returns
 returns c =
     let j = c.args.job.now in
-    λ L. c.loop-p.invariant.1 ∙ latest-last j L c.args.finishes.now {n = c.loop-p.p} (omega (arith, c.loop-p.invariant.0))
+    let n : ℕ = j.board.blue.processors + j.board.red.processors in
+    let f : ℕ → ℕ = λ p. get_or c.args.finishes.now p 0 in
+    let found = max_from_yields_List c.map.result c.max.result c.max.ensures.ran
+    (YieldsList-from_map _ f (YieldsList-from_range 0 n n (cc) (omega arith)) c.map.ensures.closure (λ x b q k. search (rules, tests))) in
+    λ L. c.unwrap_or.ensures ∙ max-range f n c.max.result found ∙ latest-last j L c.args.finishes.now refl

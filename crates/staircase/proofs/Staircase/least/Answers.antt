@@ -1,21 +1,22 @@
-use native.Mathlib.Omega.{arith}
-use mathlib.Core.Path.{◌≡◌, ◌∙◌, ap}
+-- `least` meets its contract: the least of the chain is that of the rules' list.
+use Prim.Native.Nat.{◌<◌}
+use mathlib.Core.Path.{◌≡◌, ap, ◌∙◌}
+use borrow.Author.Tests.{tests}
 use lib.ListN.{length}
-use Prim.Native.Nat.{pred}
-use Rattle.rules.specs.Count.{min_up_to}
-use Rattle.rules.specs.Staircase.{least_free}
-use Rattle.staircase.specs.Steps.{as_steps}
-use Rattle.staircase.proofs.ReadLaws.{amount, least_first, least-turn, least_steps}
+use Rattle.std.proofs.Common.{arith, rules}
+use Rattle.std.proofs.lemmas.Iterator.{YieldsList-from_slice, YieldsList-from_map}
+use Rattle.std.proofs.lemmas.Iterator.Consumers.{min_from_yields_List}
+use Rattle.std.proofs.lemmas.List.{length-map}
+use Rattle.staircase.specs.declared.Step.{Step}
+use Rattle.staircase.specs.Steps.{as_step, as_steps}
+use Rattle.staircase.proofs.ReadLaws.{least-found}
 use Rattle.staircase.proofs.Staircase.least.Goals as goal
-
-pub loop-step-init : goal.loop-step-init
-loop-step-init c = least_first c.as_slice-steps.result.now
-
-pub loop-step-preserved : goal.loop-step-preserved
-loop-step-preserved c = omega (arith, least-turn c.as_slice-steps.result.now c.loop-step.step-index)
 
 pub returns : goal.returns
 returns c =
-    let end : c.loop-step.step-index ≡ length c.as_slice-steps.result.now = omega (arith, c.loop-step-test.false) in
-    c.loop-step.invariant ∙ ap (λ k. min_up_to (pred k) (amount c.as_slice-steps.result.now)) end ∙ least_steps c.as_slice-steps.result.now
-    ∙ ap (λ xs. least_free (as_steps xs)) c.as_slice-steps.ensures.value ∙ ap least_free c.self.view_is
+    let xs = c.deref.result.now in
+    let v : as_steps xs ≡ c.args.self.now = ap as_steps c.deref.ensures.0 ∙ c.self.view_is in
+    let some : 0 < length xs = omega (arith, length-map xs as_step, ap length v, c.self.invariant.one, ap length c.self.view_is) in
+    let found = min_from_yields_List c.map.result c.min.result c.min.ensures.ran
+    (YieldsList-from_map _ (λ (s : Step). s.free) (YieldsList-from_slice xs (cc)) c.map.ensures.closure (λ x b q k. search (rules, tests))) in
+    c.unwrap_or.ensures ∙ least-found xs v some c.min.result found
