@@ -9,24 +9,24 @@ use std::io::Result;
 // A space and a colour.
 fn print_colour(rt: &impl Print, colour: Colour) -> Result<()> {
     match colour {
-        Colour::Blue => rt.write_all(b" blue"),
-        Colour::Red => rt.write_all(b" red"),
+        Colour::Blue => print!(rt; " blue"),
+        Colour::Red => print!(rt; " red"),
     }
 }
 
 // The colours of maker and reader, the move time, and what the reader's colour must newly hold.
 fn print_case(rt: &impl Print, maker: Colour, reader: Colour) -> Result<()> {
-    rt.write_all(b"(case")?;
+    print!(rt; "(case")?;
     print_colour(rt, maker)?;
     print_colour(rt, reader)?;
     print_number(rt, cost_between(maker, reader, 5))?;
     print_number(rt, cost_between(maker, reader, 3))?;
-    rt.write_all(b")\n")
+    println!(rt; ")")
 }
 
 // The four cases: nothing within a colour, C and F across colours.
 fn table(rt: &impl Print) -> Result<()> {
-    rt.write_all(b"maker, reader, move time and newly held, of C 5 and F 3:\n")?;
+    println!(rt; "maker, reader, move time and newly held, of C 5 and F 3:")?;
     print_case(rt, Colour::Blue, Colour::Blue)?;
     print_case(rt, Colour::Red, Colour::Red)?;
     print_case(rt, Colour::Blue, Colour::Red)?;
@@ -38,25 +38,25 @@ fn reader_within(rt: &impl Print) -> Result<()> {
     let sheet = b"(board (blue 2 9) (red 2 9))\n(task 1 4 2)\n(task 2 1 6)\n(file 1 2 3 5)\n";
     show(
         rt,
-        b"blue-blue, the reader at the maker's finish",
+        "blue-blue, the reader at the maker's finish",
         sheet,
         b"(run 1 1 1)\n(run 2 2 5)\n(claim 6 3 0)\n",
     )?;
     show(
         rt,
-        b"16: blue-blue, the reader one tick earlier",
+        "16: blue-blue, the reader one tick earlier",
         sheet,
         b"(run 1 1 1)\n(run 2 2 4)\n(claim 5 3 0)\n",
     )?;
     show(
         rt,
-        b"red-red, the reader at the maker's finish",
+        "red-red, the reader at the maker's finish",
         sheet,
         b"(run 1 3 1)\n(run 2 4 3)\n(claim 9 0 3)\n",
     )?;
     show(
         rt,
-        b"16: red-red, the reader one tick earlier",
+        "16: red-red, the reader one tick earlier",
         sheet,
         b"(run 1 3 1)\n(run 2 4 2)\n(claim 8 0 3)\n",
     )
@@ -67,37 +67,37 @@ fn reader_across(rt: &impl Print) -> Result<()> {
     let sheet = b"(board (blue 2 9) (red 2 9))\n(task 1 4 2)\n(task 2 1 6)\n(file 1 2 3 5)\n";
     show(
         rt,
-        b"blue-red, the move at the maker's finish and the reader C later",
+        "blue-red, the move at the maker's finish and the reader C later",
         sheet,
         b"(run 1 1 1)\n(run 2 3 10)\n(move 1 2 5)\n(claim 16 3 3)\n",
     )?;
     show(
         rt,
-        b"16: blue-red, the reader one tick earlier",
+        "16: blue-red, the reader one tick earlier",
         sheet,
         b"(run 1 1 1)\n(run 2 3 9)\n(move 1 2 5)\n(claim 15 3 3)\n",
     )?;
     show(
         rt,
-        b"16: blue-red, the move one tick earlier",
+        "16: blue-red, the move one tick earlier",
         sheet,
         b"(run 1 1 1)\n(run 2 3 10)\n(move 1 2 4)\n(claim 16 3 3)\n",
     )?;
     show(
         rt,
-        b"red-blue, the move at the maker's finish and the reader C later",
+        "red-blue, the move at the maker's finish and the reader C later",
         sheet,
         b"(run 1 3 1)\n(run 2 1 8)\n(move 1 2 3)\n(claim 9 3 3)\n",
     )?;
     show(
         rt,
-        b"16: red-blue, the reader one tick earlier",
+        "16: red-blue, the reader one tick earlier",
         sheet,
         b"(run 1 3 1)\n(run 2 1 7)\n(move 1 2 3)\n(claim 8 3 3)\n",
     )?;
     show(
         rt,
-        b"16: red-blue, the move one tick earlier",
+        "16: red-blue, the move one tick earlier",
         sheet,
         b"(run 1 3 1)\n(run 2 1 8)\n(move 1 2 2)\n(claim 9 3 3)\n",
     )
@@ -108,25 +108,25 @@ fn move_lines(rt: &impl Print) -> Result<()> {
     let sheet = b"(board (blue 2 9) (red 2 9))\n(task 1 4 2)\n(task 2 1 6)\n(file 1 2 3 5)\n";
     show(
         rt,
-        b"14: blue-blue, a move line",
+        "14: blue-blue, a move line",
         sheet,
         b"(run 1 1 1)\n(run 2 2 10)\n(move 1 2 5)\n(claim 11 3 0)\n",
     )?;
     show(
         rt,
-        b"14: red-red, a move line",
+        "14: red-red, a move line",
         sheet,
         b"(run 1 3 1)\n(run 2 4 8)\n(move 1 2 3)\n(claim 14 0 3)\n",
     )?;
     show(
         rt,
-        b"14: blue-red, no move line",
+        "14: blue-red, no move line",
         sheet,
         b"(run 1 1 1)\n(run 2 3 10)\n(claim 16 3 3)\n",
     )?;
     show(
         rt,
-        b"14: red-blue, no move line",
+        "14: red-blue, no move line",
         sheet,
         b"(run 1 3 1)\n(run 2 1 8)\n(claim 9 3 3)\n",
     )
@@ -137,26 +137,26 @@ fn limits_within(rt: &impl Print) -> Result<()> {
     let on_blue = b"(run 1 1 1)\n(run 2 2 5)\n(claim 6 3 0)\n";
     show(
         rt,
-        b"blue-blue, blue limit F, red limit 0",
+        "blue-blue, blue limit F, red limit 0",
         b"(board (blue 2 3) (red 2 0))\n(task 1 4 2)\n(task 2 1 6)\n(file 1 2 3 5)\n",
         on_blue,
     )?;
     show(
         rt,
-        b"17: blue-blue, blue limit one less, at the maker's start",
+        "17: blue-blue, blue limit one less, at the maker's start",
         b"(board (blue 2 2) (red 2 0))\n(task 1 4 2)\n(task 2 1 6)\n(file 1 2 3 5)\n",
         on_blue,
     )?;
     let on_red = b"(run 1 3 1)\n(run 2 4 3)\n(claim 9 0 3)\n";
     show(
         rt,
-        b"red-red, red limit F, blue limit 0",
+        "red-red, red limit F, blue limit 0",
         b"(board (blue 2 0) (red 2 3))\n(task 1 4 2)\n(task 2 1 6)\n(file 1 2 3 5)\n",
         on_red,
     )?;
     show(
         rt,
-        b"17: red-red, red limit one less, at the maker's start",
+        "17: red-red, red limit one less, at the maker's start",
         b"(board (blue 2 0) (red 2 2))\n(task 1 4 2)\n(task 2 1 6)\n(file 1 2 3 5)\n",
         on_red,
     )
@@ -167,38 +167,38 @@ fn limits_across(rt: &impl Print) -> Result<()> {
     let to_red = b"(run 1 1 1)\n(run 2 3 10)\n(move 1 2 5)\n(claim 16 3 3)\n";
     show(
         rt,
-        b"blue-red, both limits F",
+        "blue-red, both limits F",
         b"(board (blue 2 3) (red 2 3))\n(task 1 4 2)\n(task 2 1 6)\n(file 1 2 3 5)\n",
         to_red,
     )?;
     show(
         rt,
-        b"17: blue-red, blue limit one less, at the maker's start",
+        "17: blue-red, blue limit one less, at the maker's start",
         b"(board (blue 2 2) (red 2 3))\n(task 1 4 2)\n(task 2 1 6)\n(file 1 2 3 5)\n",
         to_red,
     )?;
     show(
         rt,
-        b"17: blue-red, red limit one less, at the move's start",
+        "17: blue-red, red limit one less, at the move's start",
         b"(board (blue 2 3) (red 2 2))\n(task 1 4 2)\n(task 2 1 6)\n(file 1 2 3 5)\n",
         to_red,
     )?;
     let to_blue = b"(run 1 3 1)\n(run 2 1 8)\n(move 1 2 3)\n(claim 9 3 3)\n";
     show(
         rt,
-        b"red-blue, both limits F",
+        "red-blue, both limits F",
         b"(board (blue 2 3) (red 2 3))\n(task 1 4 2)\n(task 2 1 6)\n(file 1 2 3 5)\n",
         to_blue,
     )?;
     show(
         rt,
-        b"17: red-blue, red limit one less, at the maker's start",
+        "17: red-blue, red limit one less, at the maker's start",
         b"(board (blue 2 3) (red 2 2))\n(task 1 4 2)\n(task 2 1 6)\n(file 1 2 3 5)\n",
         to_blue,
     )?;
     show(
         rt,
-        b"17: red-blue, blue limit one less, at the move's start",
+        "17: red-blue, blue limit one less, at the move's start",
         b"(board (blue 2 2) (red 2 3))\n(task 1 4 2)\n(task 2 1 6)\n(file 1 2 3 5)\n",
         to_blue,
     )
@@ -211,37 +211,37 @@ fn another_file_within(rt: &impl Print) -> Result<()> {
         b"(board (blue 2 3) (red 2 3))\n(task 1 4 2)\n(task 2 1 6)\n(task 3 1 1)\n(task 4 1 1)\n(file 1 2 3 5)\n(file 3 4 2 7)\n";
     show(
         rt,
-        b"blue-blue, another file on blue from the reader's finish",
+        "blue-blue, another file on blue from the reader's finish",
         sheet,
         b"(run 1 1 1)\n(run 2 2 5)\n(run 3 1 6)\n(run 4 1 7)\n(claim 8 3 0)\n",
     )?;
     show(
         rt,
-        b"17: blue-blue, from one tick earlier",
+        "17: blue-blue, from one tick earlier",
         sheet,
         b"(run 1 1 1)\n(run 2 2 5)\n(run 3 1 5)\n(run 4 1 7)\n(claim 8 5 0)\n",
     )?;
     show(
         rt,
-        b"blue-blue, another file on red all the time",
+        "blue-blue, another file on red all the time",
         sheet,
         b"(run 1 1 1)\n(run 2 2 5)\n(run 3 3 1)\n(run 4 3 5)\n(claim 6 3 2)\n",
     )?;
     show(
         rt,
-        b"red-red, another file on red from the reader's finish",
+        "red-red, another file on red from the reader's finish",
         sheet,
         b"(run 1 3 1)\n(run 2 4 3)\n(run 3 3 9)\n(run 4 3 10)\n(claim 11 0 3)\n",
     )?;
     show(
         rt,
-        b"17: red-red, from one tick earlier",
+        "17: red-red, from one tick earlier",
         sheet,
         b"(run 1 3 1)\n(run 2 4 3)\n(run 3 3 8)\n(run 4 3 10)\n(claim 11 0 5)\n",
     )?;
     show(
         rt,
-        b"red-red, another file on blue all the time",
+        "red-red, another file on blue all the time",
         sheet,
         b"(run 1 3 1)\n(run 2 4 3)\n(run 3 1 1)\n(run 4 1 8)\n(claim 9 2 3)\n",
     )
@@ -253,25 +253,25 @@ fn another_file_at_the_maker(rt: &impl Print) -> Result<()> {
         b"(board (blue 2 3) (red 2 3))\n(task 1 4 2)\n(task 2 1 6)\n(task 3 1 1)\n(task 4 1 1)\n(file 1 2 3 5)\n(file 3 4 2 7)\n";
     show(
         rt,
-        b"blue-red, another file on blue from the move's end",
+        "blue-red, another file on blue from the move's end",
         sheet,
         b"(run 1 1 1)\n(run 2 3 10)\n(run 3 1 10)\n(run 4 1 11)\n(move 1 2 5)\n(claim 16 3 3)\n",
     )?;
     show(
         rt,
-        b"17: blue-red, from one tick earlier",
+        "17: blue-red, from one tick earlier",
         sheet,
         b"(run 1 1 1)\n(run 2 3 10)\n(run 3 1 9)\n(run 4 1 11)\n(move 1 2 5)\n(claim 16 5 3)\n",
     )?;
     show(
         rt,
-        b"red-blue, another file on red from the move's end",
+        "red-blue, another file on red from the move's end",
         sheet,
         b"(run 1 3 1)\n(run 2 1 8)\n(run 3 3 8)\n(run 4 3 9)\n(move 1 2 3)\n(claim 10 3 3)\n",
     )?;
     show(
         rt,
-        b"17: red-blue, from one tick earlier",
+        "17: red-blue, from one tick earlier",
         sheet,
         b"(run 1 3 1)\n(run 2 1 8)\n(run 3 3 7)\n(run 4 3 9)\n(move 1 2 3)\n(claim 10 3 5)\n",
     )
@@ -283,25 +283,25 @@ fn another_file_at_the_reader(rt: &impl Print) -> Result<()> {
         b"(board (blue 2 3) (red 2 3))\n(task 1 4 2)\n(task 2 1 6)\n(task 3 1 1)\n(task 4 1 1)\n(file 1 2 3 5)\n(file 3 4 2 7)\n";
     show(
         rt,
-        b"blue-red, another file on red until the move's start",
+        "blue-red, another file on red until the move's start",
         sheet,
         b"(run 1 1 1)\n(run 2 3 10)\n(run 3 3 3)\n(run 4 3 4)\n(move 1 2 5)\n(claim 16 3 3)\n",
     )?;
     show(
         rt,
-        b"17: blue-red, until one tick later",
+        "17: blue-red, until one tick later",
         sheet,
         b"(run 1 1 1)\n(run 2 3 10)\n(run 3 3 3)\n(run 4 3 5)\n(move 1 2 5)\n(claim 16 3 5)\n",
     )?;
     show(
         rt,
-        b"red-blue, another file on blue until the move's start",
+        "red-blue, another file on blue until the move's start",
         sheet,
         b"(run 1 3 1)\n(run 2 1 8)\n(run 3 1 1)\n(run 4 1 2)\n(move 1 2 3)\n(claim 9 3 3)\n",
     )?;
     show(
         rt,
-        b"17: red-blue, until one tick later",
+        "17: red-blue, until one tick later",
         sheet,
         b"(run 1 3 1)\n(run 2 1 8)\n(run 3 1 1)\n(run 4 1 3)\n(move 1 2 3)\n(claim 9 5 3)\n",
     )
@@ -315,9 +315,8 @@ fn print_plan(rt: &impl Print, sheet: &[u8]) -> Result<()> {
 }
 
 // Prints what is shown, and the timetable.
-fn plan(rt: &impl Print, what: &[u8], sheet: &[u8]) -> Result<()> {
-    rt.write_all(what)?;
-    rt.write_all(b":\n")?;
+fn plan(rt: &impl Print, what: &str, sheet: &[u8]) -> Result<()> {
+    println!(rt; "{what}:")?;
     print_plan(rt, sheet)
 }
 
@@ -325,22 +324,22 @@ fn plan(rt: &impl Print, what: &[u8], sheet: &[u8]) -> Result<()> {
 fn planned(rt: &impl Print) -> Result<()> {
     plan(
         rt,
-        b"MemHEFT, blue-blue",
+        "MemHEFT, blue-blue",
         b"(board (blue 2 9) (red 2 9))\n(task 1 2 4)\n(task 2 1 6)\n(file 1 2 3 5)\n",
     )?;
     plan(
         rt,
-        b"MemHEFT, red-red",
+        "MemHEFT, red-red",
         b"(board (blue 2 9) (red 2 9))\n(task 1 4 2)\n(task 2 6 1)\n(file 1 2 3 5)\n",
     )?;
     plan(
         rt,
-        b"MemHEFT, blue-red",
+        "MemHEFT, blue-red",
         b"(board (blue 2 9) (red 2 9))\n(task 1 2 4)\n(task 2 9 1)\n(file 1 2 3 5)\n",
     )?;
     plan(
         rt,
-        b"MemHEFT, red-blue",
+        "MemHEFT, red-blue",
         b"(board (blue 2 9) (red 2 9))\n(task 1 4 2)\n(task 2 1 9)\n(file 1 2 3 5)\n",
     )
 }
@@ -350,22 +349,22 @@ fn planned(rt: &impl Print) -> Result<()> {
 fn planned_to_red(rt: &impl Print) -> Result<()> {
     plan(
         rt,
-        b"MemHEFT, blue-red, red limit 5: F free from tick 0 on",
+        "MemHEFT, blue-red, red limit 5: F free from tick 0 on",
         b"(board (blue 2 3) (red 2 5))\n(task 1 2 4)\n(task 2 9 1)\n(task 3 9 1)\n(task 4 9 3)\n(file 1 2 3 5)\n(file 3 4 2 4)\n",
     )?;
     plan(
         rt,
-        b"MemHEFT, blue-red, red limit 4: F free from tick 4 on",
+        "MemHEFT, blue-red, red limit 4: F free from tick 4 on",
         b"(board (blue 2 3) (red 2 4))\n(task 1 2 4)\n(task 2 9 1)\n(task 3 9 1)\n(task 4 9 3)\n(file 1 2 3 5)\n(file 3 4 2 4)\n",
     )?;
     plan(
         rt,
-        b"MemHEFT, blue-red, red limit 3: exactly F free from tick 4 on",
+        "MemHEFT, blue-red, red limit 3: exactly F free from tick 4 on",
         b"(board (blue 2 3) (red 2 3))\n(task 1 2 4)\n(task 2 9 1)\n(task 3 9 1)\n(task 4 9 3)\n(file 1 2 3 5)\n(file 3 4 2 4)\n",
     )?;
     plan(
         rt,
-        b"MemHEFT, blue-blue, red limit 2: F free at no tick",
+        "MemHEFT, blue-blue, red limit 2: F free at no tick",
         b"(board (blue 2 3) (red 2 2))\n(task 1 2 4)\n(task 2 9 1)\n(task 3 9 1)\n(task 4 9 3)\n(file 1 2 3 5)\n(file 3 4 2 4)\n",
     )
 }
@@ -374,22 +373,22 @@ fn planned_to_red(rt: &impl Print) -> Result<()> {
 fn planned_to_blue(rt: &impl Print) -> Result<()> {
     plan(
         rt,
-        b"MemHEFT, red-blue, blue limit 5: F free from tick 0 on",
+        "MemHEFT, red-blue, blue limit 5: F free from tick 0 on",
         b"(board (blue 2 5) (red 2 3))\n(task 1 4 2)\n(task 2 1 9)\n(task 3 1 9)\n(task 4 3 9)\n(file 1 2 3 5)\n(file 3 4 2 4)\n",
     )?;
     plan(
         rt,
-        b"MemHEFT, red-blue, blue limit 4: F free from tick 4 on",
+        "MemHEFT, red-blue, blue limit 4: F free from tick 4 on",
         b"(board (blue 2 4) (red 2 3))\n(task 1 4 2)\n(task 2 1 9)\n(task 3 1 9)\n(task 4 3 9)\n(file 1 2 3 5)\n(file 3 4 2 4)\n",
     )?;
     plan(
         rt,
-        b"MemHEFT, red-blue, blue limit 3: exactly F free from tick 4 on",
+        "MemHEFT, red-blue, blue limit 3: exactly F free from tick 4 on",
         b"(board (blue 2 3) (red 2 3))\n(task 1 4 2)\n(task 2 1 9)\n(task 3 1 9)\n(task 4 3 9)\n(file 1 2 3 5)\n(file 3 4 2 4)\n",
     )?;
     plan(
         rt,
-        b"MemHEFT, red-red, blue limit 2: F free at no tick",
+        "MemHEFT, red-red, blue limit 2: F free at no tick",
         b"(board (blue 2 2) (red 2 3))\n(task 1 4 2)\n(task 2 1 9)\n(task 3 1 9)\n(task 4 3 9)\n(file 1 2 3 5)\n(file 3 4 2 4)\n",
     )
 }

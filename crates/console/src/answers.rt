@@ -35,15 +35,28 @@ pub fn print_marks(rt: &impl Print, sheet: &[u8], paper: &[u8]) -> IoResult<()> 
         return Ok(());
     }
     write_escaped(rt, line)?;
-    rt.write_all(b"\n")
+    println!(rt)
 }
 
-// What is shown, and number, place and trials of a planner's answer.
-pub fn print_numbers(rt: &impl Print, name: &[u8], planner: &[u8], answer: Answer) -> IoResult<()> {
+fn name_of(planner: Planner) -> &'static str {
+    match planner {
+        Planner::MemHeft => "MemHEFT",
+        Planner::MemMinMin => "MemMinMin",
+        Planner::Heft => "HEFT",
+        Planner::MinMin => "MINMIN",
+    }
+}
+
+// What is shown, the planner, and number, place and trials of its answer.
+pub fn print_numbers(
+    rt: &impl Print,
+    what: &str,
+    planner: Planner,
+    answer: Answer,
+) -> IoResult<()> {
     let [number, place] = numbers_of(answer.written);
-    rt.write_all(name)?;
-    rt.write_all(planner)?;
-    println!(rt; " {number} {place} {}", answer.trials)
+    let name = name_of(planner);
+    println!(rt; "{what}, {name}: {number} {place} {}", answer.trials)
 }
 
 // The text that a call wrote at the front of a buffer; none after a refusal.
@@ -75,35 +88,27 @@ pub fn print_text_mark(
     let Ok(size) = written else {
         return Ok(());
     };
-    rt.write_all(b"marked: ")?;
+    print!(rt; "marked: ")?;
     print_verdict(rt, frames::mark(sheet, &out[..size]))
 }
 
 // What is shown, and the verdict on a timetable.
-pub fn show_verdict(rt: &impl Print, what: &[u8], sheet: &[u8], paper: &[u8]) -> IoResult<()> {
-    rt.write_all(what)?;
-    rt.write_all(b": ")?;
+pub fn show_verdict(rt: &impl Print, what: &str, sheet: &[u8], paper: &[u8]) -> IoResult<()> {
+    print!(rt; "{what}: ")?;
     print_verdict(rt, frames::mark(sheet, paper))
 }
 
 // The same, and the line at fault under a refusal.
-pub fn show_marks(rt: &impl Print, what: &[u8], sheet: &[u8], paper: &[u8]) -> IoResult<()> {
-    rt.write_all(what)?;
-    rt.write_all(b": ")?;
+pub fn show_marks(rt: &impl Print, what: &str, sheet: &[u8], paper: &[u8]) -> IoResult<()> {
+    print!(rt; "{what}: ")?;
     print_marks(rt, sheet, paper)
 }
 
 // What is shown, number, place and trials of a planner on a sheet, its timetable or refusal, and how the timetable is marked.
-pub fn show_plan(
-    rt: &impl Print,
-    what: &[u8],
-    label: &[u8],
-    planner: Planner,
-    sheet: &[u8],
-) -> IoResult<()> {
+pub fn show_plan(rt: &impl Print, what: &str, planner: Planner, sheet: &[u8]) -> IoResult<()> {
     let mut out = large_buffer();
     let answer = plan(planner, sheet, &mut out);
-    print_numbers(rt, what, label, answer)?;
+    print_numbers(rt, what, planner, answer)?;
     print_text(rt, answer.written, &out)?;
     print_text_mark(rt, sheet, answer.written, &out)
 }

@@ -2,30 +2,24 @@
 use crate::escape::write_escaped;
 use std::io::{Cursor, Error, Result, Write};
 
-// `PROGRAM: WHAT: REASON`.
-pub fn report<'a>(err: &impl Print, program: &'a [u8], what: &'a [u8], error: Error) {
-    if err.write_all(program).is_ok()
-        && err.write_all(b": ").is_ok()
-        && write_escaped(err, what).is_ok()
-    {
+// `PROGRAM: WHAT: REASON`. What failed may be a file, whose name need not be UTF-8.
+pub fn report(err: &impl Print, program: &str, what: &[u8], error: Error) {
+    if print!(err; "{program}: ").is_ok() && write_escaped(err, what).is_ok() {
         fail(err, error);
     }
 }
 
 // `PROGRAM: argument I: REASON`.
-pub fn report_argument(err: &impl Print, program: &[u8], i: usize, error: Error) {
-    if err.write_all(program).is_ok()
-        && err.write_all(b": argument ").is_ok()
-        && err.print(i).is_ok()
-    {
+pub fn report_argument(err: &impl Print, program: &str, i: usize, error: Error) {
+    if print!(err; "{program}: argument {i}").is_ok() {
         fail(err, error);
     }
 }
 
 // `: REASON` and the end of the line.
 fn fail(err: &impl Print, error: Error) {
-    if err.write_all(b": ").is_ok() && print_reason(err, error).is_ok() {
-        let _ = err.write_all(b"\n");
+    if print!(err; ": ").is_ok() && print_reason(err, error).is_ok() {
+        let _ = println!(err);
     }
 }
 

@@ -27,10 +27,10 @@ fn read_all(from: &mut impl Read, buf: &mut [u8]) -> Result<usize>
 }
 
 // The text of an open file that messages call `name`. Reports a failure.
-pub fn read_descriptor<'a>(
+pub fn read_descriptor(
     err: &impl Print,
-    program: &'a [u8],
-    name: &'a [u8],
+    program: &str,
+    name: &[u8],
     from: &mut impl Read,
     buf: &mut [u8],
 ) -> Result<usize>
@@ -52,11 +52,11 @@ fn open<R: Files>(rt: &R, name: &[u8]) -> Result<R::File> {
 }
 
 // The text of the file of that name. Reports a failure.
-pub fn read_file<'a>(
+pub fn read_file(
     rt: &impl Files,
     err: &impl Print,
-    program: &'a [u8],
-    name: &'a [u8],
+    program: &str,
+    name: &[u8],
     buf: &mut [u8],
 ) -> Result<usize>
     ensures { IfOk result (λ n. IsPrefixLen n buf.new) }
@@ -89,7 +89,7 @@ const NAME_TOO_LONG: i32 = 36;
 pub fn read_argument(
     rt: &impl Env,
     err: &impl Print,
-    program: &[u8],
+    program: &str,
     i: usize,
     buf: &mut [u8],
 ) -> Result<usize>
@@ -108,7 +108,7 @@ pub fn read_argument(
 pub fn read_named(
     rt: &(impl Env + Files),
     err: &impl Print,
-    program: &[u8],
+    program: &str,
     i: usize,
     buf: &mut [u8],
 ) -> Result<usize>

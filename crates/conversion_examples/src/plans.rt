@@ -6,40 +6,28 @@ use console::{
 use std::io::Result;
 
 // One planner on a converted sheet, and what is left of its timetable for the original; nothing where there is no timetable.
-fn show_planner<'a>(
-    rt: &impl Print,
-    label: &'a [u8],
-    planner: Planner,
-    sheet: &'a [u8],
-    wide: &'a [u8],
-) -> Result<()> {
+fn show_planner(rt: &impl Print, planner: Planner, sheet: &[u8], wide: &[u8]) -> Result<()> {
     let mut out = io::large_buffer();
     let answer = plan(planner, wide, &mut out);
-    print_numbers(rt, b"converted", label, answer)?;
+    print_numbers(rt, "converted", planner, answer)?;
     print_text(rt, answer.written, &out)?;
     print_text_mark(rt, wide, answer.written, &out)?;
     if answer.written.is_ok() {
-        stripped(rt, b"stripped", sheet, written_text(answer.written, &out))?;
+        stripped(rt, "stripped", sheet, written_text(answer.written, &out))?;
     }
     Ok(())
 }
 
 // A planner on a sheet, then all four on the converted one.
-fn show<'a>(
-    rt: &impl Print,
-    what: &'a [u8],
-    label: &'a [u8],
-    planner: Planner,
-    sheet: &'a [u8],
-) -> Result<()> {
-    show_plan(rt, what, label, planner, sheet)?;
+fn show(rt: &impl Print, what: &str, planner: Planner, sheet: &[u8]) -> Result<()> {
+    show_plan(rt, what, planner, sheet)?;
     let mut out = io::large_buffer();
     let written = convert(sheet, &mut out);
     let wide = written_text(written, &out);
-    show_planner(rt, b", MemHEFT:", Planner::MemHeft, sheet, wide)?;
-    show_planner(rt, b", MemMinMin:", Planner::MemMinMin, sheet, wide)?;
-    show_planner(rt, b", HEFT:", Planner::Heft, sheet, wide)?;
-    show_planner(rt, b", MINMIN:", Planner::MinMin, sheet, wide)
+    show_planner(rt, Planner::MemHeft, sheet, wide)?;
+    show_planner(rt, Planner::MemMinMin, sheet, wide)?;
+    show_planner(rt, Planner::Heft, sheet, wide)?;
+    show_planner(rt, Planner::MinMin, sheet, wide)
 }
 
 pub fn examples(rt: &impl Print) -> Result<()> {
@@ -47,8 +35,7 @@ pub fn examples(rt: &impl Print) -> Result<()> {
     // span is 9, while it is 8 on the sheet itself. Blue holds the file of task 2 from 0 on, so its peak is 6; when stripped it is 5.
     show(
         rt,
-        b"the course example, W for its first and its last task",
-        b", MemHEFT:",
+        "the course example, W for its first and its last task",
         Planner::MemHeft,
         b"(board (blue 1 6) (red 1 6))\n(task 1 4 2 1)\n(task 2 3 5)\n(task 3 2 6 1)\n(file 1 2 2 1)\n(file 1 3 3 2)\n",
     )?;
@@ -56,8 +43,7 @@ pub fn examples(rt: &impl Print) -> Result<()> {
     // MemHEFT places the added task 2 behind task 3. HEFT puts it on red, which has no memory, and MINMIN both on blue, 9 blocks: over a limit at 0.
     show(
         rt,
-        b"W of 3 and 3, a file of 3, 6 blocks",
-        b", MemMinMin:",
+        "W of 3 and 3, a file of 3, 6 blocks",
         Planner::MemMinMin,
         b"(board (blue 1 6) (red 1 0))\n(task 1 2 2 3)\n(task 2 2 2 3)\n(file 1 2 3 1)\n",
     )

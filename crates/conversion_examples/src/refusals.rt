@@ -5,20 +5,20 @@ use std::io::Result;
 // The converter's, of a sheet.
 fn sheets(rt: &impl Print) -> Result<()> {
     let long = io::large_buffer();
-    converted(rt, b"1: a sheet of 65536 bytes", &long)?;
+    converted(rt, "1: a sheet of 65536 bytes", &long)?;
     converted(
         rt,
-        b"2: two spaces",
+        "2: two spaces",
         b"(board (blue 1 6) (red 1 6))\n(task 1 4 2  1)\n",
     )?;
     converted(
         rt,
-        b"3: W of 0",
+        "3: W of 0",
         b"(board (blue 1 6) (red 1 6))\n(task 1 4 2 1)\n(task 2 3 5 0)\n",
     )?;
     converted(
         rt,
-        b"4: task 3 where task 2 is due",
+        "4: task 3 where task 2 is due",
         b"(board (blue 1 6) (red 1 6))\n(task 1 4 2 1)\n(task 3 2 6 1)\n",
     )
 }
@@ -26,28 +26,28 @@ fn sheets(rt: &impl Print) -> Result<()> {
 // The stripper's, of a timetable's text. The timetable without a fault has eight lines and the claim; task 2, an added one, is on red.
 fn texts(rt: &impl Print, sheet: &[u8]) -> Result<()> {
     let long = io::large_buffer();
-    stripped(rt, b"11: a timetable of 65536 bytes", sheet, &long)?;
+    stripped(rt, "11: a timetable of 65536 bytes", sheet, &long)?;
     stripped(
         rt,
-        b"12: a leading zero",
+        "12: a leading zero",
         sheet,
         b"(run 1 2 0)\n(run 2 02 2)\n(run 3 2 0)\n(run 4 1 3)\n(run 5 1 6)\n(move 2 5 5)\n(move 3 4 2)\n(move 3 5 4)\n(claim 8 6 6)\n",
     )?;
     stripped(
         rt,
-        b"13: processor 3 of 2, an added task's",
+        "13: processor 3 of 2, an added task's",
         sheet,
         b"(run 1 2 0)\n(run 2 3 2)\n(run 3 2 0)\n(run 4 1 3)\n(run 5 1 6)\n(move 2 5 5)\n(move 3 4 2)\n(move 3 5 4)\n(claim 8 6 6)\n",
     )?;
     stripped(
         rt,
-        b"14: a timetable of the original, a move where task 4 is due",
+        "14: a timetable of the original, a move where task 4 is due",
         sheet,
         b"(run 1 2 0)\n(run 2 1 3)\n(run 3 1 6)\n(move 1 2 2)\n(move 1 3 4)\n(claim 8 5 6)\n",
     )?;
     stripped(
         rt,
-        b"14: the move of the added file left out",
+        "14: the move of the added file left out",
         sheet,
         b"(run 1 2 0)\n(run 2 2 2)\n(run 3 2 0)\n(run 4 1 3)\n(run 5 1 6)\n(move 3 4 2)\n(move 3 5 4)\n(claim 8 6 6)\n",
     )
@@ -57,25 +57,25 @@ fn texts(rt: &impl Print, sheet: &[u8]) -> Result<()> {
 fn timetables(rt: &impl Print, sheet: &[u8]) -> Result<()> {
     stripped(
         rt,
-        b"15: the added task 2 inside task 3's run from 0 until 2",
+        "15: the added task 2 inside task 3's run from 0 until 2",
         sheet,
         b"(run 1 2 0)\n(run 2 2 1)\n(run 3 2 0)\n(run 4 1 3)\n(run 5 1 6)\n(move 2 5 5)\n(move 3 4 2)\n(move 3 5 4)\n(claim 8 6 6)\n",
     )?;
     stripped(
         rt,
-        b"16: the added file arrives at 7, task 5 starts at 6",
+        "16: the added file arrives at 7, task 5 starts at 6",
         sheet,
         b"(run 1 2 0)\n(run 2 2 2)\n(run 3 2 0)\n(run 4 1 3)\n(run 5 1 6)\n(move 2 5 6)\n(move 3 4 2)\n(move 3 5 4)\n(claim 8 6 6)\n",
     )?;
     stripped(
         rt,
-        b"17: the added task 2 at 0, 7 blocks of red memory",
+        "17: the added task 2 at 0, 7 blocks of red memory",
         sheet,
         b"(run 1 2 0)\n(run 2 2 0)\n(run 3 2 0)\n(run 4 1 3)\n(run 5 1 6)\n(move 2 5 5)\n(move 3 4 2)\n(move 3 5 4)\n(claim 8 6 7)\n",
     )?;
     stripped(
         rt,
-        b"18: the claim of what is left",
+        "18: the claim of what is left",
         sheet,
         b"(run 1 2 0)\n(run 2 2 2)\n(run 3 2 0)\n(run 4 1 3)\n(run 5 1 6)\n(move 2 5 5)\n(move 3 4 2)\n(move 3 5 4)\n(claim 8 5 6)\n",
     )
@@ -84,39 +84,39 @@ fn timetables(rt: &impl Print, sheet: &[u8]) -> Result<()> {
 // The stripper's, of a sheet, whatever the timetable.
 fn sheets_to_strip(rt: &impl Print) -> Result<()> {
     let long = io::large_buffer();
-    stripped(rt, b"1: two texts of 65536 bytes", &long, &long)?;
+    stripped(rt, "1: two texts of 65536 bytes", &long, &long)?;
     stripped(
         rt,
-        b"3: W of 0, no timetable",
+        "3: W of 0, no timetable",
         b"(board (blue 1 6) (red 1 6))\n(task 1 4 2 1)\n(task 2 3 5 0)\n",
         b"",
     )
 }
 
 // A buffer one byte too short, whose bytes stay; and one that is just long enough. What is converted takes 154 bytes, what is left 76.
-fn short<'a>(rt: &impl Print, sheet: &'a [u8], paper: &'a [u8]) -> Result<()> {
+fn short(rt: &impl Print, sheet: &[u8], paper: &[u8]) -> Result<()> {
     let mut sheet_out = [b'.'; 153];
     let a = frames::convert(sheet, &mut sheet_out);
-    numbers(rt, b"31: 153 bytes for the sheet", a)?;
+    numbers(rt, "31: 153 bytes for the sheet", a)?;
     rt.write_all(&sheet_out)?;
-    rt.write_all(b"\n")?;
+    println!(rt)?;
     let mut paper_out = [b'.'; 75];
     let b = frames::strip(sheet, paper, &mut paper_out);
-    numbers(rt, b"31: 75 bytes for the timetable", b)?;
+    numbers(rt, "31: 75 bytes for the timetable", b)?;
     rt.write_all(&paper_out)?;
-    rt.write_all(b"\n")
+    println!(rt)
 }
 
-fn long_enough<'a>(rt: &impl Print, sheet: &'a [u8], paper: &'a [u8]) -> Result<()> {
+fn long_enough(rt: &impl Print, sheet: &[u8], paper: &[u8]) -> Result<()> {
     let mut sheet_out = [b'.'; 154];
     let a = frames::convert(sheet, &mut sheet_out);
-    numbers(rt, b"154 bytes for the sheet", a)?;
+    numbers(rt, "154 bytes for the sheet", a)?;
     rt.write_all(&sheet_out)?;
     let mut paper_out = [b'.'; 78];
     let b = frames::strip(sheet, paper, &mut paper_out);
-    numbers(rt, b"78 bytes for the timetable, of which two stay", b)?;
+    numbers(rt, "78 bytes for the timetable, of which two stay", b)?;
     rt.write_all(&paper_out)?;
-    rt.write_all(b"\n")
+    println!(rt)
 }
 
 pub fn examples(rt: &impl Print) -> Result<()> {

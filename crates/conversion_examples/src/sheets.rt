@@ -4,12 +4,12 @@ use console::{convert, written_text};
 use std::io::Result;
 
 // The converter on a sheet without W: number and place, and whether it wrote the sheet's own bytes.
-fn show_same<'a>(rt: &impl Print, what: &'a [u8], sheet: &'a [u8]) -> Result<()> {
+fn show_same(rt: &impl Print, what: &str, sheet: &[u8]) -> Result<()> {
     let mut out = io::large_buffer();
     let written = convert(sheet, &mut out);
     numbers(rt, what, written)?;
     if written_text(written, &out) == sheet {
-        rt.write_all(b"the same bytes\n")?;
+        println!(rt; "the same bytes")?;
     }
     Ok(())
 }
@@ -18,12 +18,12 @@ fn show_same<'a>(rt: &impl Print, what: &'a [u8], sheet: &'a [u8]) -> Result<()>
 fn without_work(rt: &impl Print) -> Result<()> {
     show_same(
         rt,
-        b"the course example, without W",
+        "the course example, without W",
         b"(board (blue 1 6) (red 1 6))\n(task 1 4 2)\n(task 2 3 5)\n(task 3 2 6)\n(file 1 2 2 1)\n(file 1 3 3 2)\n",
     )?;
     show_same(
         rt,
-        b"one task",
+        "one task",
         b"(board (blue 8 999999999) (red 8 0))\n(task 1 0 1000000000)\n",
     )
 }
@@ -32,19 +32,19 @@ fn without_work(rt: &impl Print) -> Result<()> {
 fn with_work(rt: &impl Print) -> Result<()> {
     converted(
         rt,
-        b"one task, with W",
+        "one task, with W",
         b"(board (blue 1 5) (red 1 0))\n(task 1 4 2 5)\n",
     )?;
     // two of three: the added tasks 1 and 2 serve the old tasks 1 and 3, which are now 3 and 5
     converted(
         rt,
-        b"the course example, W for its first and its last task",
+        "the course example, W for its first and its last task",
         b"(board (blue 1 6) (red 1 6))\n(task 1 4 2 1)\n(task 2 3 5)\n(task 3 2 6 1)\n(file 1 2 2 1)\n(file 1 3 3 2)\n",
     )?;
     // all three, a relay among them; sizes 0 and times of 1000000000 stay, and the greatest W is a file's greatest size
     converted(
         rt,
-        b"every task with W",
+        "every task with W",
         b"(board (blue 2 9) (red 1 9))\n(task 1 4 2 3)\n(task 2 0 0 1)\n(task 3 1000000000 5 1000000)\n(file 1 2 2 1)\n(file 2 3 0 1000000000)\n",
     )
 }

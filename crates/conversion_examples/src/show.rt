@@ -4,14 +4,13 @@ use frames::{Refusal, numbers_of};
 use std::io::Result as IoResult;
 
 // What is shown, and number and place.
-pub fn numbers(rt: &impl Print, what: &[u8], written: Result<usize, Refusal>) -> IoResult<()> {
+pub fn numbers(rt: &impl Print, what: &str, written: Result<usize, Refusal>) -> IoResult<()> {
     let [number, place] = numbers_of(written);
-    rt.write_all(what)?;
-    println!(rt; ": {number} {place}")
+    println!(rt; "{what}: {number} {place}")
 }
 
 // The converter on a sheet: number, place and what was written.
-pub fn converted<'a>(rt: &impl Print, what: &'a [u8], sheet: &'a [u8]) -> IoResult<()> {
+pub fn converted(rt: &impl Print, what: &str, sheet: &[u8]) -> IoResult<()> {
     let mut out = io::large_buffer();
     let written = convert(sheet, &mut out);
     numbers(rt, what, written)?;
@@ -19,12 +18,7 @@ pub fn converted<'a>(rt: &impl Print, what: &'a [u8], sheet: &'a [u8]) -> IoResu
 }
 
 // The stripper on a sheet and a timetable of the converted one: number, place, what was written, and how that is marked for the sheet.
-pub fn stripped<'a>(
-    rt: &impl Print,
-    what: &'a [u8],
-    sheet: &'a [u8],
-    paper: &'a [u8],
-) -> IoResult<()> {
+pub fn stripped(rt: &impl Print, what: &str, sheet: &[u8], paper: &[u8]) -> IoResult<()> {
     let mut out = io::large_buffer();
     let written = strip(sheet, paper, &mut out);
     numbers(rt, what, written)?;

@@ -15,13 +15,13 @@ fn print_converted(rt: &impl Print, sheet: &[u8]) -> Result<()> {
 fn main(rt: HostRuntime) {
     let err = rt.stderr();
     if 1 < argument_count(&rt) {
-        let _ = err.write_all(b"usage: frameconvert < SHEET\n");
+        let _ = println!(err; "usage: frameconvert < SHEET");
         return;
     }
     let mut sheet = io::large_buffer();
     let Ok(n) = read_descriptor(
         &err,
-        b"frameconvert",
+        "frameconvert",
         b"standard input",
         &mut rt.stdin(),
         &mut sheet,
@@ -29,6 +29,6 @@ fn main(rt: HostRuntime) {
         return;
     };
     if let Err(e) = print_converted(&rt, &sheet[..n]) {
-        report(&err, b"frameconvert", b"standard output", e);
+        report(&err, "frameconvert", b"standard output", e);
     }
 }

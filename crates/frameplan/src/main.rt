@@ -6,7 +6,7 @@ use console::{Planner, argument_count, plan, print_text, read_descriptor, report
 use std::io::Result;
 use std::rt::Env;
 
-// The planner of that name.
+// The planner of that name. An argument is bytes, so it is matched as it is: a FromStr would want text.
 fn planner_named(word: &[u8]) -> Option<Planner> {
     match word {
         b"memheft" => Some(Planner::MemHeft),
@@ -41,13 +41,13 @@ fn print_plan(rt: &impl Print, planner: Planner, sheet: &[u8]) -> Result<()> {
 fn main(rt: HostRuntime) {
     let err = rt.stderr();
     let Some(planner) = planner_asked(&rt) else {
-        let _ = err.write_all(b"usage: frameplan [memheft|memminmin|heft|minmin] < SHEET\n");
+        let _ = println!(err; "usage: frameplan [memheft|memminmin|heft|minmin] < SHEET");
         return;
     };
     let mut sheet = io::large_buffer();
     let Ok(n) = read_descriptor(
         &err,
-        b"frameplan",
+        "frameplan",
         b"standard input",
         &mut rt.stdin(),
         &mut sheet,
@@ -55,6 +55,6 @@ fn main(rt: HostRuntime) {
         return;
     };
     if let Err(e) = print_plan(&rt, planner, &sheet[..n]) {
-        report(&err, b"frameplan", b"standard output", e);
+        report(&err, "frameplan", b"standard output", e);
     }
 }

@@ -1,4 +1,5 @@
-// The public calls. None has a `requires`: any bytes may be handed in.
+// The public calls. None has a `requires`: any bytes may be handed in. Each begins with the same two lines: one function for them would lend the
+// job to a closure, and its clauses would be longer.
 #![tactic(auto)]
 
 mod converter;

@@ -11,12 +11,7 @@ use simulator::answer::Simulation;
 
 // Makes so many steps on a timetable, from the steps already made: how that ends, the steps made in all, and the state that it
 // leaves; or the refusal of a text.
-pub fn simulate<'a>(
-    sheet: &'a [u8],
-    paper: &'a [u8],
-    made: u64,
-    steps: u64,
-) -> Result<Simulation, Refusal>
+pub fn simulate(sheet: &[u8], paper: &[u8], made: u64, steps: u64) -> Result<Simulation, Refusal>
     ensures answer { as_answer result ≡ rules-simulate sheet.now paper.now made steps }
     ensures simulator_demands { SimulatorDemands sheet.now paper.now made steps (as_answer result) }
 {

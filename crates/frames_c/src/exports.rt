@@ -13,7 +13,7 @@ use rules::Board;
 
 // Number, place, span, blue peak and red peak of `mark`.
 #[unsafe(no_mangle)]
-pub extern "C" fn frames_mark<'a>(sheet: &'a [u8], paper: &'a [u8], numbers: &mut [u64; 5])
+pub extern "C" fn frames_mark(sheet: &[u8], paper: &[u8], numbers: &mut [u64; 5])
     ensures { numbers.new ≡ verdict_numbers (rules-mark sheet.now paper.now) }
 {
     *numbers = match frames::mark(sheet, paper) {
@@ -24,7 +24,7 @@ pub extern "C" fn frames_mark<'a>(sheet: &'a [u8], paper: &'a [u8], numbers: &mu
 
 // The line of `fault_line`, copied to the front of `line` if it fits there; answers its length.
 #[unsafe(no_mangle)]
-pub extern "C" fn frames_fault_line<'a>(sheet: &'a [u8], paper: &'a [u8], line: &mut [u8]) -> usize
+pub extern "C" fn frames_fault_line(sheet: &[u8], paper: &[u8], line: &mut [u8]) -> usize
     ensures length { result ≡ length (fault_line sheet.now paper.now) }
     ensures line { line.new ≡
         (if nat_le (length (fault_line sheet.now paper.now)) (length line.old)
@@ -87,9 +87,9 @@ pub extern "C" fn frames_min_min(sheet: &[u8], out: &mut [u8], numbers: &mut [u6
 // Number, place, 1 if steps are left, span, steps made and time of `simulate`; the task that each processor runs, or 0; where each file
 // is held: 0 nowhere, 1 in blue, 2 in red, 3 in both.
 #[unsafe(no_mangle)]
-pub extern "C" fn frames_simulate<'a>(
-    sheet: &'a [u8],
-    paper: &'a [u8],
+pub extern "C" fn frames_simulate(
+    sheet: &[u8],
+    paper: &[u8],
     made: u64,
     steps: u64,
     numbers: &mut [u64; 6],
@@ -104,6 +104,7 @@ pub extern "C" fn frames_simulate<'a>(
         Ok(a) => {
             let p = a.progress;
             *numbers = [p.number(), p.place(), p.left(), p.span(), a.made, a.time];
+            // each array gets a name first: no proof is made of a field copied behind a reference
             let tasks = a.running;
             *running = tasks;
             let files = a.contents;
@@ -128,12 +129,7 @@ pub extern "C" fn frames_convert(sheet: &[u8], out: &mut [u8], numbers: &mut [u6
 
 // Number and place of `strip`; the timetable is in `out`.
 #[unsafe(no_mangle)]
-pub extern "C" fn frames_strip<'a>(
-    sheet: &'a [u8],
-    paper: &'a [u8],
-    out: &mut [u8],
-    numbers: &mut [u64; 2],
-)
+pub extern "C" fn frames_strip(sheet: &[u8], paper: &[u8], out: &mut [u8], numbers: &mut [u64; 2])
     ensures numbers { numbers.new ≡ output_numbers (rules-strip sheet.now paper.now out.old) }
     ensures buffer { out.new ≡ (rules-strip sheet.now paper.now out.old).buffer }
 {

@@ -1,88 +1,43 @@
--- The number that digits spell, read from the first digit to the last.
-use Prim.Native.Nat.{ℕ, suc, ◌+◌, ◌*◌, ◌-◌, ◌^◌, ◌≤◌, ◌<◌}
-use mathlib.Core.Bool.{false, cond, ◌&&◌}
+-- The number that digits spell, as the library parses it.
+use Prim.Native.Nat.{ℕ, zero, suc, ◌^◌, ◌≤◌, ◌<◌}
+use mathlib.Core.Bool.{Bool, true, false, cond, ◌&&◌}
 use mathlib.Core.List.{List, [], ◌∷◌}
-use mathlib.Core.Path.{◌≡◌, sym, ◌∙◌}
-use native.Mathlib.Numerals.{add-one}
+use mathlib.Core.Path.{◌≡◌, refl, sym, ◌∙◌}
 use native.Mathlib.Omega.{arith}
-use borrow.Author.Tests.{lt-ltb, le-ltb, ltb-true, ltb-false}
+use borrow.Author.Tests.{lt-ltb, ltb-true}
 use lib.Dec.{ltb}
-use lib.ListN.{length, get_or, drop, drop_of_length-le}
-use lib.Seq.{drop-cons}
-use Rattle.rules.specs.Text.{digit, value_from}
-use Rattle.rules.proofs.Tests.{split}
-use Rattle.std.specs.Prelude.{Option, Some, None}
-use Rattle.framewatch.specs.Decimal.{all_digits, number_of, with_digit}
+use lib.ListN.{length}
+use Rattle.std.proofs.Common.{rules}
+use Rattle.std.specs.Prelude.{Option, Some, None, Result, Ok, Err}
+use Rattle.std.specs.Char.{is_ascii_digit}
+use Rattle.std.specs.List.{list_all}
+use Rattle.std.specs.Result.{result_ok, OkIff}
+use Rattle.std.specs.Str.{IsAscii}
+use Rattle.std.specs.Str.Parse.{ParsesUnsigned}
+use Rattle.std.proofs.lemmas.Str.Parse.{IsNumeralModel, numerals_by_fold, parse_digits}
+use Rattle.rules.specs.Text.{value_from}
+use Rattle.rules.proofs.Tests.{split, clash}
+use Rattle.framewatch.specs.Decimal.{number_of}
 
--- ---- one digit more
-abbrev next : ℕ → ℕ → ℕ
-next v b = v * 10 + (b - 48)
+-- digits in ASCII, and their value
+own : IsNumeralModel (λ s. list_all is_ascii_digit s ≡ true) (value_from 0)
+own = numerals_by_fold _ (search rules) value_from (search rules)
 
--- ---- the number v, and then the digits that follow it
-unfoldable pub rest : ℕ → List ℕ → Option ℕ
-rest v [] = Some v
-rest v (b ∷ s) = cond (digit b && ltb (next v b) (2 ^ 64)) (rest (next v b) s) None
+pub digits-ascii : (s : List ℕ) → list_all is_ascii_digit s ≡ true → IsAscii s
+digits-ascii [] e i = grind arith
+digits-ascii (b ∷ s) e zero = grind arith
+digits-ascii (b ∷ s) e (suc i) = split (is_ascii_digit b) (λ d. digits-ascii s (rw d at e) i) (λ d. clash (rw d at e) refl)
 
-value_grows : (v : ℕ) (s : List ℕ) → v ≤ value_from v s
-value_grows v [] = omega arith
-value_grows v (b ∷ s) = omega (arith, value_grows (next v b) s)
+pub number-none : (s : List ℕ) → list_all is_ascii_digit s ≡ false → None ≡ number_of s
+number-none s e = rw e
 
--- the declared number, by its parts
-abbrev spelled : ℕ → List ℕ → Option ℕ
-spelled v s = cond (all_digits s && ltb (value_from v s) (2 ^ 64)) (Some (value_from v s)) None
+module _ {E : Type 0} (s : List ℕ) (all : list_all is_ascii_digit s ≡ true) where
+  number-ok : (r : Result ℕ E) → OkIff r ((0 < length s) × (value_from 0 s < 2 ^ 64)) (value_from 0 s) → result_ok r ≡ number_of s
+  number-ok (Ok n) ((some, fits), e) = rw (all, lt-ltb _ _ some, lt-ltb _ _ fits, e)
+  number-ok (Err x) never =
+      split (ltb 0 (length s))
+      (λ d. split (ltb (value_from 0 s) (2 ^ 64)) (λ e. absurd (never (ltb-true _ _ d, ltb-true _ _ e))) (λ e. rw (all, d, e)))
+      (λ d. rw (all, d))
 
-never : (v : ℕ) (s : List ℕ) → 2 ^ 64 ≤ v → spelled v s ≡ None
-never v s h =
-    let e : ltb (value_from v s) (2 ^ 64) ≡ false = le-ltb (value_from v s) (2 ^ 64) (omega (arith, value_grows v s)) in
-    split (all_digits s) (λ d. rw (d, e)) (λ d. rw d)
-
-rest-spelled : (v : ℕ) (s : List ℕ) → v < 2 ^ 64 → rest v s ≡ spelled v s
-unfolding rest
-rest-spelled v [] h = rw (lt-ltb v (2 ^ 64) h)
-rest-spelled v (b ∷ s) h =
-    split (digit b)
-    (λ d.
-    split (ltb (next v b) (2 ^ 64))
-    (λ e. rw (d, e) (rest-spelled (next v b) s (ltb-true (next v b) (2 ^ 64) e)))
-    (λ e. rw (d, e) (sym (never (next v b) s (ltb-false (next v b) (2 ^ 64) e)))))
-    (λ d. rw d)
-
-rest_more : (v b w : ℕ) (s : List ℕ) → with_digit v b ≡ Some w → rest v (b ∷ s) ≡ rest w s
-unfolding rest
-rest_more v b w s e =
-    split (digit b && ltb (next v b) (2 ^ 64))
-    (λ d. let q : next v b ≡ w = cc (rw d at e) in rw (d, q))
-    (λ d. absurd (let z : ◌≡◌ {A = ℕ} 0 1 = cc (rw d at e) in omega arith))
-
-rest-stop : (v b : ℕ) (s : List ℕ) → with_digit v b ≡ None → rest v (b ∷ s) ≡ None
-unfolding rest
-rest-stop v b s e =
-    split (digit b && ltb (next v b) (2 ^ 64))
-    (λ d. absurd (let z : ◌≡◌ {A = ℕ} 0 1 = cc (rw d at e) in omega arith))
-    (λ d. rw d)
-
--- ---- the digits before i spell v
-pub record Reading (s : List ℕ) (v i : ℕ) : Type 0 where
-  pub within : i ≤ length s
-  pub left : number_of s ≡ rest v (drop i s)
-
-pub reading-start : (s : List ℕ) → 0 < length s → Reading s 0 0
-reading-start s h = record {
-  within = omega arith;
-  left = rw (lt-ltb 0 (length s) h) (sym (rest-spelled 0 s (omega arith)));
-}
-
-module _ {s : List ℕ} {v i : ℕ} (r : Reading s v i) where
-  module _ (h : i < length s) where
-    pub reading-more : (w : ℕ) → with_digit v (get_or s i 0) ≡ Some w → Reading s w (i + 1)
-    reading-more w e = record {
-      within = omega arith;
-      left = r.left ∙ rw (add-one i, drop-cons s i 0 h) (rest_more v (get_or s i 0) w (drop (suc i) s) e);
-    }
-
-    pub reading-stop : with_digit v (get_or s i 0) ≡ None → None ≡ number_of s
-    reading-stop e = sym (r.left ∙ rw (drop-cons s i 0 h) (rest-stop v (get_or s i 0) (drop (suc i) s) e))
-
-  pub reading-end : length s ≤ i → Some v ≡ number_of s
-  unfolding rest
-  reading-end h = sym (r.left ∙ rw (drop_of_length-le s {i = i} h))
+  pub number-is : (r : Result ℕ E) → ParsesUnsigned 64 10 s r → result_ok r ≡ number_of s
+  number-is r h = number-ok r (parse_digits own 64 s r h all)

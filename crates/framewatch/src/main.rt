@@ -18,7 +18,7 @@ use std::rt::{Env, Files};
 fn number_argument(
     rt: &impl Env,
     err: &impl Print,
-    name: &[u8],
+    name: &str,
     i: usize,
     otherwise: u64,
 ) -> Option<u64> {
@@ -35,21 +35,22 @@ fn number_argument(
 }
 
 // That the argument called `name` is no number.
-fn print_no_number(err: &impl Print, name: &[u8]) -> Result<()> {
-    err.write_all(b"framewatch: ")?;
-    err.write_all(name)?;
-    err.write_all(b": not a decimal number from 0 to 18446744073709551615\n")
+fn print_no_number(err: &impl Print, name: &str) -> Result<()> {
+    println!(err;
+        "framewatch: {name}: not a decimal number from 0 to {}",
+        u64::MAX
+    )
 }
 
 // Shows so many steps of the timetable of argument 2 on a board sheet, behind those made. The buffers for texts are longer than a text
 // may be, so a file that fills one is refused as too long.
 fn watch(rt: &(impl Env + Files + Print), err: &impl Print, sheet: &[u8], made: u64, steps: u64) {
     let mut text = io::large_buffer();
-    let Ok(n) = read_named(rt, err, b"framewatch", 2, &mut text) else {
+    let Ok(n) = read_named(rt, err, "framewatch", 2, &mut text) else {
         return;
     };
     if let Err(e) = trace::show(rt, sheet, &text[..n], made, steps) {
-        report(err, b"framewatch", b"standard output", e);
+        report(err, "framewatch", b"standard output", e);
     }
 }
 
@@ -58,17 +59,17 @@ fn main(rt: HostRuntime) {
     let err = rt.stderr();
     let count = argument_count(&rt);
     if count < 3 || 5 < count {
-        let _ = err.write_all(b"usage: framewatch SHEET PAPER [STEPS [MADE]]\n");
+        let _ = println!(err; "usage: framewatch SHEET PAPER [STEPS [MADE]]");
         return;
     }
-    let Some(steps) = number_argument(&rt, &err, b"STEPS", 3, Board::MAX_STEPS) else {
+    let Some(steps) = number_argument(&rt, &err, "STEPS", 3, Board::MAX_STEPS) else {
         return;
     };
-    let Some(made) = number_argument(&rt, &err, b"MADE", 4, 0) else {
+    let Some(made) = number_argument(&rt, &err, "MADE", 4, 0) else {
         return;
     };
     let mut text = io::large_buffer();
-    let Ok(n) = read_named(&rt, &err, b"framewatch", 1, &mut text) else {
+    let Ok(n) = read_named(&rt, &err, "framewatch", 1, &mut text) else {
         return;
     };
     watch(&rt, &err, &text[..n], made, steps);

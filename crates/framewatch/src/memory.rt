@@ -1,5 +1,5 @@
 // The files that a memory holds: their total, the limit and each of them.
-ghost use Rattle.std.specs.Prelude.{◌≡◌, ◌+◌, ◌<◌, ◌≤◌, get_or};
+ghost use Rattle.std.specs.Prelude.{◌≡◌, ◌+◌, ◌<◌, ◌≤◌, get_or, length};
 ghost use Rattle.rules.specs.Limits.{max_tasks, file_sizes};
 ghost use Rattle.rules.specs.Model.{size_at};
 ghost use Rattle.rules.specs.Count.{sum_where};
@@ -25,11 +25,11 @@ fn holds(colour: Colour, held: u64) -> bool
 // The sizes together of the files that the memory of the colour holds.
 fn total(job: &Job, contents: &[u64; Board::MAX_FILES], colour: Colour) -> u64
     ensures value { result ≡
-        sum_where job.now.shape.files (λ k. is_in (as_colour colour) (get_or contents.now k 0)) (size_at (instance_in job.now)) }
+        sum_where (length job.now.files.now) (λ k. is_in (as_colour colour) (get_or contents.now k 0)) (size_at (instance_in job.now)) }
     ensures upper_bound { result ≤ most_files }
 {
     let mut sum = 0;
-    for k in 0..job.shape.files {
+    for k in 0..job.files.len() {
         if holds(colour, contents[k]) {
             sum += job.size(k);
         }
@@ -63,7 +63,7 @@ fn with_file(
     held: u64,
     hang: usize,
 ) -> Line
-    requires k_lt_files { k < job.now.shape.files }
+    requires k_lt_files { k < length job.now.files.now }
     requires file_columns_bound { hang + file_columns ≤ width }
 {
     if holds(colour, held) {
@@ -88,7 +88,7 @@ fn files(
     requires file_columns_bound { hang + file_columns ≤ width }
 {
     let mut row = line;
-    for k in 0..job.shape.files {
+    for k in 0..job.files.len() {
         row = with_file(rt, row, job, colour, k, contents[k], hang);
     }
     row
@@ -98,7 +98,7 @@ fn files(
 fn limit_columns(job: &Job) -> usize
     ensures { result ≤ limit_columns }
 {
-    text::number_size(job.shape.board.blue.limit.max(job.shape.board.red.limit))
+    text::number_size(job.board.blue.limit.max(job.board.red.limit))
 }
 
 // The line with the files that the memory of the colour holds behind it: their total and the limit, aligned from colour to colour, and each file.
@@ -113,11 +113,7 @@ pub fn show(
 {
     let columns = limit_columns(job);
     let held = total(job, contents, colour);
-    let limit = by_colour(
-        colour,
-        job.shape.board.blue.limit,
-        job.shape.board.red.limit,
-    );
+    let limit = by_colour(colour, job.board.blue.limit, job.board.red.limit);
     let row = line.right(held, columns).text(" of ").right(limit, columns);
     let hang = row.used() + 3;
     files(rt, row, job, contents, colour, hang)

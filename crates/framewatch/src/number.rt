@@ -1,31 +1,24 @@
 // A decimal number, as an argument spells it.
 ghost use Rattle.std.specs.Prelude.{◌≡◌};
-ghost use Rattle.framewatch.specs.Decimal.{number_of, with_digit};
+ghost use Rattle.std.specs.Char.{is_ascii_digit};
+ghost use Rattle.std.specs.List.{list_all};
+ghost use Rattle.framewatch.specs.Decimal.{number_of};
 
-// A number with one digit more, if the byte is a digit and the number is not too large.
-fn with_digit(v: u64, b: u8) -> Option<u64>
-    ensures { result ≡ with_digit v b }
+fn all_digits(text: &[u8]) -> bool
+    ensures { result ≡ list_all is_ascii_digit text.now }
 {
-    if !b.is_ascii_digit() {
-        return None;
-    }
-    let d = (b - b'0') as u64;
-    if (u64::MAX - d) / 10 < v {
-        return None;
-    }
-    Some(v * 10 + d)
+    text.iter().all(|b| b.is_ascii_digit())
 }
 
-// The number that a text spells: digits alone, one or more. A parse of the library's would allow a sign.
+// The number that a text spells: digits alone, one or more. The library's parse would allow a sign before them.
 pub fn number_of(text: &[u8]) -> Option<u64>
     ensures { result ≡ number_of text.now }
 {
-    if text.is_empty() {
+    if !all_digits(text) {
         return None;
     }
-    let mut v = 0;
-    for b in text {
-        v = with_digit(v, *b)?;
+    match str::from_utf8(text) {
+        Ok(digits) => digits.parse().ok(),
+        Err(_) => None,
     }
-    Some(v)
 }

@@ -63,9 +63,9 @@ fn side(rt: &impl Print, line: Line, job: &Job, state: Simulation, colour: Colou
 {
     let running = state.running;
     let contents = state.contents;
-    let blue = job.shape.board.blue.processors;
+    let blue = job.board.blue.processors;
     let before = by_colour(colour, 0, blue) as usize;
-    let count = by_colour(colour, blue, job.shape.board.red.processors) as usize;
+    let count = by_colour(colour, blue, job.board.red.processors) as usize;
     let runs = processors(rt, label(line, colour), &running, before, count).end(rt);
     let row = runs.text("        memory     ");
     memory::show(rt, row, job, &contents, colour).end(rt)

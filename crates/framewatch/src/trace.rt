@@ -1,5 +1,5 @@
 // The trace of a timetable: a heading, the steps, and how it ends.
-ghost use Rattle.std.specs.Prelude.{◌≡◌, ◌≤◌, ltb};
+ghost use Rattle.std.specs.Prelude.{◌≡◌, ◌≤◌, ltb, length};
 ghost use Rattle.rules.specs.Count.{any_below};
 ghost use Rattle.rules.specs.Model.{work_at};
 ghost use Rattle.model.specs.Jobs.{instance_in};
@@ -17,9 +17,9 @@ use std::io::Result;
 fn print_heading(rt: &impl Print, job: &Job) -> Result<()> {
     Line::new()
         .text("tasks: ")
-        .number(job.shape.tasks as u64)
+        .number(job.tasks.len() as u64)
         .text(", files: ")
-        .number(job.shape.files as u64)
+        .number(job.files.len() as u64)
         .text("; memory in blocks, each file as (maker reader) size")
         .end(rt)
         .ok
@@ -27,9 +27,9 @@ fn print_heading(rt: &impl Print, job: &Job) -> Result<()> {
 
 // Whether a task has working memory.
 fn has_work(job: &Job) -> bool
-    ensures { result ≡ any_below job.now.shape.tasks (λ i. ltb 0 (work_at (instance_in job.now) i)) }
+    ensures { result ≡ any_below (length job.now.tasks.now) (λ i. ltb 0 (work_at (instance_in job.now) i)) }
 {
-    (0..job.shape.tasks).any(|i| 0 < job.work(i))
+    (0..job.tasks.len()).any(|i| 0 < job.work(i))
 }
 
 // That working memory is not shown, if a task has it. Fails where it cannot be written.
@@ -122,15 +122,11 @@ fn print_trace(
 // Shows so many steps of a timetable behind those made, or the refusal of a text. Fails where that cannot be written.
 pub fn show(rt: &impl Print, sheet: &[u8], paper: &[u8], made: u64, steps: u64) -> Result<()> {
     let mut numbers = Numbers::new();
-    let Ok(shape) = instance::read(sheet, &mut numbers) else {
+    let Ok(job) = instance::job_of(sheet, &mut numbers) else {
         return print_marks(rt, sheet, paper);
     };
     let Ok(first) = frames::simulate(sheet, paper, made, 0) else {
         return print_marks(rt, sheet, paper);
-    };
-    let job = Job {
-        shape,
-        numbers: &numbers,
     };
     print_trace(rt, sheet, paper, &job, first, steps)
 }

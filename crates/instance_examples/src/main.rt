@@ -1,20 +1,17 @@
 // Reads board sheets, good and bad, and prints the number and the place of each answer.
 #![tactic(auto)]
 
-use model::layout;
+use model::layout::Numbers;
 use rules::Board;
 use std::io::Result;
 
 fn put(rt: &impl Print, number: u64, place: u64) -> Result<()> {
-    rt.print(number)?;
-    rt.write_all(b" ")?;
-    rt.print(place)?;
-    rt.write_all(b"\n")
+    println!(rt; "{number} {place}")
 }
 
 fn show(rt: &impl Print, sheet: &[u8]) -> Result<()> {
-    let mut job = layout::Numbers::new();
-    match instance::read(sheet, &mut job) {
+    let mut numbers = Numbers::new();
+    match instance::read(sheet, &mut numbers) {
         Ok(_) => put(rt, 0, 0),
         Err(refusal) => put(rt, refusal.number(), refusal.place()),
     }

@@ -9,55 +9,55 @@ fn beside_a_run(rt: &impl Print) -> Result<()> {
     let sheet = b"(board (blue 1 0) (red 1 0))\n(task 1 4 4)\n(task 2 0 3)\n";
     show(
         rt,
-        b"15: a relay inside a run, the higher task of the two",
+        "15: a relay inside a run, the higher task of the two",
         sheet,
         b"(run 1 1 0)\n(run 2 1 2)\n(claim 4 0 0)\n",
     )?;
     show(
         rt,
-        b"15: a relay one tick after the start of a run",
+        "15: a relay one tick after the start of a run",
         sheet,
         b"(run 1 1 3)\n(run 2 1 4)\n(claim 7 0 0)\n",
     )?;
     show(
         rt,
-        b"15: a relay one tick before the finish of a run",
+        "15: a relay one tick before the finish of a run",
         sheet,
         b"(run 1 1 3)\n(run 2 1 6)\n(claim 7 0 0)\n",
     )?;
     show(
         rt,
-        b"a relay at the start of a run",
+        "a relay at the start of a run",
         sheet,
         b"(run 1 1 3)\n(run 2 1 3)\n(claim 7 0 0)\n",
     )?;
     show(
         rt,
-        b"a relay at the finish of a run",
+        "a relay at the finish of a run",
         sheet,
         b"(run 1 1 3)\n(run 2 1 7)\n(claim 7 0 0)\n",
     )?;
     show(
         rt,
-        b"a relay and a run from tick 0",
+        "a relay and a run from tick 0",
         sheet,
         b"(run 1 1 0)\n(run 2 1 0)\n(claim 4 0 0)\n",
     )?;
     show(
         rt,
-        b"15: no relay on red, at the start of a run",
+        "15: no relay on red, at the start of a run",
         sheet,
         b"(run 1 2 0)\n(run 2 2 0)\n(claim 4 0 0)\n",
     )?;
     show(
         rt,
-        b"15: no relay on red, one tick before the finish of a run",
+        "15: no relay on red, one tick before the finish of a run",
         sheet,
         b"(run 1 2 0)\n(run 2 2 3)\n(claim 6 0 0)\n",
     )?;
     show(
         rt,
-        b"no relay on red, at the finish of a run",
+        "no relay on red, at the finish of a run",
         sheet,
         b"(run 1 2 0)\n(run 2 2 4)\n(claim 7 0 0)\n",
     )
@@ -68,19 +68,19 @@ fn beside_a_red_run(rt: &impl Print) -> Result<()> {
     let sheet = b"(board (blue 1 0) (red 1 0))\n(task 1 4 4)\n(task 2 3 0)\n";
     show(
         rt,
-        b"15: a relay inside a run on red",
+        "15: a relay inside a run on red",
         sheet,
         b"(run 1 2 0)\n(run 2 2 2)\n(claim 4 0 0)\n",
     )?;
     show(
         rt,
-        b"a relay at the start of a run on red",
+        "a relay at the start of a run on red",
         sheet,
         b"(run 1 2 3)\n(run 2 2 3)\n(claim 7 0 0)\n",
     )?;
     show(
         rt,
-        b"15: no relay on blue, at the start of a run",
+        "15: no relay on blue, at the start of a run",
         sheet,
         b"(run 1 1 3)\n(run 2 1 3)\n(claim 7 0 0)\n",
     )
@@ -90,43 +90,43 @@ fn beside_a_red_run(rt: &impl Print) -> Result<()> {
 fn beside_others(rt: &impl Print) -> Result<()> {
     show(
         rt,
-        b"15: a relay inside a run, the lower task of the two",
+        "15: a relay inside a run, the lower task of the two",
         b"(board (blue 1 0) (red 1 0))\n(task 1 0 3)\n(task 2 4 4)\n",
         b"(run 1 1 2)\n(run 2 1 0)\n(claim 4 0 0)\n",
     )?;
     show(
         rt,
-        b"15: the lowest of the two, and not a lower task before them",
+        "15: the lowest of the two, and not a lower task before them",
         b"(board (blue 1 0) (red 1 0))\n(task 1 1 1)\n(task 2 4 4)\n(task 3 0 3)\n",
         b"(run 1 1 0)\n(run 2 1 1)\n(run 3 1 3)\n(claim 5 0 0)\n",
     )?;
     show(
         rt,
-        b"15: the lowest of the two, and not a relay at the start",
+        "15: the lowest of the two, and not a relay at the start",
         b"(board (blue 1 0) (red 1 0))\n(task 1 0 3)\n(task 2 0 3)\n(task 3 4 4)\n",
         b"(run 1 1 0)\n(run 2 1 2)\n(run 3 1 0)\n(claim 4 0 0)\n",
     )?;
     show(
         rt,
-        b"a relay where one run ends and the next starts",
+        "a relay where one run ends and the next starts",
         b"(board (blue 1 0) (red 1 0))\n(task 1 4 4)\n(task 2 0 3)\n(task 3 2 2)\n",
         b"(run 1 1 0)\n(run 2 1 4)\n(run 3 1 4)\n(claim 6 0 0)\n",
     )?;
     show(
         rt,
-        b"a relay beside a run of another processor",
+        "a relay beside a run of another processor",
         b"(board (blue 2 0) (red 1 0))\n(task 1 4 4)\n(task 2 0 3)\n",
         b"(run 1 1 0)\n(run 2 2 2)\n(claim 4 0 0)\n",
     )?;
     show(
         rt,
-        b"two relays at one tick",
+        "two relays at one tick",
         b"(board (blue 1 0) (red 1 0))\n(task 1 0 3)\n(task 2 0 3)\n",
         b"(run 1 1 3)\n(run 2 1 3)\n(claim 3 0 0)\n",
     )?;
     show(
         rt,
-        b"three relays at one tick",
+        "three relays at one tick",
         b"(board (blue 1 0) (red 1 0))\n(task 1 0 3)\n(task 2 0 3)\n(task 3 0 3)\n",
         b"(run 1 1 3)\n(run 2 1 3)\n(run 3 1 3)\n(claim 3 0 0)\n",
     )
@@ -137,31 +137,31 @@ fn reading(rt: &impl Print) -> Result<()> {
     let sheet = b"(board (blue 2 1) (red 1 1))\n(task 1 3 3)\n(task 2 0 0)\n(file 1 2 1 2)\n";
     show(
         rt,
-        b"16: a relay before its file is made",
+        "16: a relay before its file is made",
         sheet,
         b"(run 1 1 0)\n(run 2 2 2)\n(claim 3 1 0)\n",
     )?;
     show(
         rt,
-        b"15 before 16: a relay inside the run of its maker",
+        "15 before 16: a relay inside the run of its maker",
         sheet,
         b"(run 1 1 0)\n(run 2 1 2)\n(claim 3 1 0)\n",
     )?;
     show(
         rt,
-        b"a relay as soon as its file is made",
+        "a relay as soon as its file is made",
         sheet,
         b"(run 1 1 0)\n(run 2 1 3)\n(claim 3 1 0)\n",
     )?;
     show(
         rt,
-        b"16: a relay before its file has moved",
+        "16: a relay before its file has moved",
         sheet,
         b"(run 1 1 0)\n(run 2 3 4)\n(move 1 2 3)\n(claim 4 1 1)\n",
     )?;
     show(
         rt,
-        b"a relay as soon as its file has moved",
+        "a relay as soon as its file has moved",
         sheet,
         b"(run 1 1 0)\n(run 2 3 5)\n(move 1 2 3)\n(claim 5 1 1)\n",
     )
@@ -172,25 +172,25 @@ fn making(rt: &impl Print) -> Result<()> {
     let sheet = b"(board (blue 1 1) (red 1 1))\n(task 1 0 0)\n(task 2 3 3)\n(file 1 2 1 2)\n";
     show(
         rt,
-        b"16: a reader before the relay that makes its file",
+        "16: a reader before the relay that makes its file",
         sheet,
         b"(run 1 1 4)\n(run 2 1 1)\n(claim 4 1 0)\n",
     )?;
     show(
         rt,
-        b"16: a move before the relay that makes its file",
+        "16: a move before the relay that makes its file",
         sheet,
         b"(run 1 1 4)\n(run 2 2 6)\n(move 1 2 3)\n(claim 9 1 1)\n",
     )?;
     show(
         rt,
-        b"a reader at the tick of the relay that makes its file",
+        "a reader at the tick of the relay that makes its file",
         sheet,
         b"(run 1 1 4)\n(run 2 1 4)\n(claim 7 1 0)\n",
     )?;
     show(
         rt,
-        b"a move at the tick of the relay that makes its file",
+        "a move at the tick of the relay that makes its file",
         sheet,
         b"(run 1 1 4)\n(run 2 2 6)\n(move 1 2 4)\n(claim 9 1 1)\n",
     )
@@ -202,25 +202,25 @@ fn released(rt: &impl Print) -> Result<()> {
         b"(board (blue 2 4) (red 2 4))\n(task 1 2 2)\n(task 2 0 3)\n(task 3 1 1)\n(task 4 1 1)\n(file 1 2 3 1)\n(file 3 4 4 1)\n";
     show(
         rt,
-        b"a relay on blue: its file held until the next tick",
+        "a relay on blue: its file held until the next tick",
         sheet,
         b"(run 1 1 0)\n(run 2 1 2)\n(run 3 1 3)\n(run 4 1 4)\n(claim 5 4 0)\n",
     )?;
     show(
         rt,
-        b"17: another file at its tick",
+        "17: another file at its tick",
         sheet,
         b"(run 1 1 0)\n(run 2 1 2)\n(run 3 1 2)\n(run 4 1 3)\n(claim 4 7 0)\n",
     )?;
     show(
         rt,
-        b"no relay on red: its file held until its finish",
+        "no relay on red: its file held until its finish",
         sheet,
         b"(run 1 3 0)\n(run 2 3 2)\n(run 3 3 5)\n(run 4 3 6)\n(claim 7 0 4)\n",
     )?;
     show(
         rt,
-        b"17: another file one tick before",
+        "17: another file one tick before",
         sheet,
         b"(run 1 3 0)\n(run 2 3 2)\n(run 3 4 4)\n(run 4 4 5)\n(claim 6 0 7)\n",
     )
@@ -233,19 +233,19 @@ fn chained(rt: &impl Print) -> Result<()> {
     let paper = b"(run 1 1 0)\n(run 2 1 2)\n(run 3 1 2)\n(run 4 1 2)\n(claim 5 7 0)\n";
     show(
         rt,
-        b"a chain of relays at one tick, all its files together",
+        "a chain of relays at one tick, all its files together",
         sheet,
         paper,
     )?;
     show(
         rt,
-        b"17: the same with a limit one less",
+        "17: the same with a limit one less",
         b"(board (blue 1 6) (red 1 0))\n(task 1 2 9)\n(task 2 0 9)\n(task 3 0 9)\n(task 4 3 9)\n(file 1 2 2 1)\n(file 2 3 4 1)\n(file 3 4 1 1)\n",
         paper,
     )?;
     show(
         rt,
-        b"18: the same without the files that the relays read",
+        "18: the same without the files that the relays read",
         sheet,
         b"(run 1 1 0)\n(run 2 1 2)\n(run 3 1 2)\n(run 4 1 2)\n(claim 5 2 0)\n",
     )
@@ -257,19 +257,19 @@ fn last(rt: &impl Print) -> Result<()> {
     let paper = b"(run 1 1 3)\n(run 2 1 3)\n(claim 3 5 0)\n";
     show(
         rt,
-        b"a relay last of all, its file held at the span",
+        "a relay last of all, its file held at the span",
         sheet,
         paper,
     )?;
     show(
         rt,
-        b"17: the same with a limit one less, at the span",
+        "17: the same with a limit one less, at the span",
         b"(board (blue 1 4) (red 1 0))\n(task 1 0 9)\n(task 2 0 9)\n(file 1 2 5 1)\n",
         paper,
     )?;
     show(
         rt,
-        b"18: the same without the file held at the span",
+        "18: the same without the file held at the span",
         sheet,
         b"(run 1 1 3)\n(run 2 1 3)\n(claim 3 0 0)\n",
     )
@@ -280,13 +280,13 @@ fn late_tick(rt: &impl Print) -> Result<()> {
     let paper = b"(run 1 1 999999999)\n(run 2 1 999999999)\n(claim 999999999 5 0)\n";
     show(
         rt,
-        b"a relay at tick 999999999",
+        "a relay at tick 999999999",
         b"(board (blue 1 5) (red 1 0))\n(task 1 0 9)\n(task 2 0 9)\n(file 1 2 5 1)\n",
         paper,
     )?;
     show(
         rt,
-        b"17: the same with a limit one less, at that tick",
+        "17: the same with a limit one less, at that tick",
         b"(board (blue 1 4) (red 1 0))\n(task 1 0 9)\n(task 2 0 9)\n(file 1 2 5 1)\n",
         paper,
     )
@@ -299,19 +299,19 @@ fn two_last(rt: &impl Print) -> Result<()> {
     let paper = b"(run 1 1 0)\n(run 2 1 2)\n(run 3 1 2)\n(claim 2 7 0)\n";
     show(
         rt,
-        b"two relays last of all, both files held at the span",
+        "two relays last of all, both files held at the span",
         sheet,
         paper,
     )?;
     show(
         rt,
-        b"17: the same with a limit one less, at the span",
+        "17: the same with a limit one less, at the span",
         b"(board (blue 1 6) (red 1 0))\n(task 1 2 9)\n(task 2 0 9)\n(task 3 0 9)\n(file 1 2 3 1)\n(file 2 3 4 1)\n",
         paper,
     )?;
     show(
         rt,
-        b"18: the same with the greater file alone",
+        "18: the same with the greater file alone",
         sheet,
         b"(run 1 1 0)\n(run 2 1 2)\n(run 3 1 2)\n(claim 2 4 0)\n",
     )
@@ -324,20 +324,20 @@ fn alone(rt: &impl Print) -> Result<()> {
     let on_red = b"(run 1 2 0)\n(run 2 2 0)\n(run 3 2 0)\n(claim 0 0 9)\n";
     show(
         rt,
-        b"all run times 0, on blue",
+        "all run times 0, on blue",
         sheet,
         b"(run 1 1 0)\n(run 2 1 0)\n(run 3 1 0)\n(claim 0 9 0)\n",
     )?;
-    show(rt, b"all run times 0, on red", sheet, on_red)?;
+    show(rt, "all run times 0, on red", sheet, on_red)?;
     show(
         rt,
-        b"17: the same with a limit one less, at tick 0",
+        "17: the same with a limit one less, at tick 0",
         b"(board (blue 1 8) (red 1 8))\n(task 1 0 0)\n(task 2 0 0)\n(task 3 0 0)\n(file 1 2 2 1)\n(file 1 3 3 1)\n(file 2 3 4 1)\n",
         on_red,
     )?;
     show(
         rt,
-        b"all run times 0, no files",
+        "all run times 0, no files",
         b"(board (blue 1 0) (red 1 0))\n(task 1 0 0)\n(task 2 0 0)\n",
         b"(run 1 1 0)\n(run 2 2 0)\n(claim 0 0 0)\n",
     )
@@ -349,19 +349,19 @@ fn over_colours(rt: &impl Print) -> Result<()> {
         b"(run 1 1 0)\n(run 2 2 3)\n(run 3 1 8)\n(move 1 2 0)\n(move 2 3 3)\n(claim 8 4 6)\n";
     show(
         rt,
-        b"a chain of relays over both colours",
+        "a chain of relays over both colours",
         b"(board (blue 1 4) (red 1 6))\n(task 1 0 0)\n(task 2 0 0)\n(task 3 0 0)\n(file 1 2 2 3)\n(file 2 3 4 5)\n",
         paper,
     )?;
     show(
         rt,
-        b"17: the same with a blue limit one less",
+        "17: the same with a blue limit one less",
         b"(board (blue 1 3) (red 1 6))\n(task 1 0 0)\n(task 2 0 0)\n(task 3 0 0)\n(file 1 2 2 3)\n(file 2 3 4 5)\n",
         paper,
     )?;
     show(
         rt,
-        b"17: the same with a red limit one less",
+        "17: the same with a red limit one less",
         b"(board (blue 1 4) (red 1 5))\n(task 1 0 0)\n(task 2 0 0)\n(task 3 0 0)\n(file 1 2 2 3)\n(file 2 3 4 5)\n",
         paper,
     )
@@ -373,31 +373,31 @@ fn moved(rt: &impl Print) -> Result<()> {
         b"(board (blue 1 5) (red 1 5))\n(task 1 2 2)\n(task 2 0 0)\n(task 3 1 1)\n(task 4 1 1)\n(file 1 2 3 4)\n(file 3 4 5 1)\n";
     show(
         rt,
-        b"a moved file of a relay, held on its side until the next tick",
+        "a moved file of a relay, held on its side until the next tick",
         sheet,
         b"(run 1 1 0)\n(run 2 2 8)\n(run 3 2 9)\n(run 4 2 10)\n(move 1 2 2)\n(claim 11 3 5)\n",
     )?;
     show(
         rt,
-        b"17: another file there at its tick",
+        "17: another file there at its tick",
         sheet,
         b"(run 1 1 0)\n(run 2 2 8)\n(run 3 2 8)\n(run 4 2 9)\n(move 1 2 2)\n(claim 10 3 8)\n",
     )?;
     show(
         rt,
-        b"a moved file of a relay, held on its maker's side until it has moved",
+        "a moved file of a relay, held on its maker's side until it has moved",
         sheet,
         b"(run 1 1 0)\n(run 2 2 8)\n(run 3 1 6)\n(run 4 1 7)\n(move 1 2 2)\n(claim 8 5 3)\n",
     )?;
     show(
         rt,
-        b"17: another file there one tick before",
+        "17: another file there one tick before",
         sheet,
         b"(run 1 1 0)\n(run 2 2 8)\n(run 3 1 5)\n(run 4 1 6)\n(move 1 2 2)\n(claim 8 8 3)\n",
     )?;
     show(
         rt,
-        b"a relay as soon as its file has moved, none of it left on the maker's side",
+        "a relay as soon as its file has moved, none of it left on the maker's side",
         sheet,
         b"(run 1 1 0)\n(run 2 2 6)\n(run 3 1 6)\n(run 4 1 7)\n(move 1 2 2)\n(claim 8 5 3)\n",
     )
@@ -408,13 +408,13 @@ fn moved_last(rt: &impl Print) -> Result<()> {
     let paper = b"(run 1 1 0)\n(run 2 2 6)\n(run 3 2 6)\n(move 1 2 2)\n(claim 6 3 5)\n";
     show(
         rt,
-        b"a relay last of all, its moved file held at the span",
+        "a relay last of all, its moved file held at the span",
         b"(board (blue 1 5) (red 1 5))\n(task 1 2 2)\n(task 2 0 0)\n(task 3 0 0)\n(file 1 2 3 4)\n(file 2 3 2 1)\n",
         paper,
     )?;
     show(
         rt,
-        b"17: the same with a limit one less, at the span",
+        "17: the same with a limit one less, at the span",
         b"(board (blue 1 5) (red 1 4))\n(task 1 2 2)\n(task 2 0 0)\n(task 3 0 0)\n(file 1 2 3 4)\n(file 2 3 2 1)\n",
         paper,
     )

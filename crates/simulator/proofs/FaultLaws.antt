@@ -8,23 +8,18 @@ use native.Mathlib.Decide.{dec_le}
 use lib.Dec.{leb, ltb, eqb}
 use borrow.Author.Tests.{leb-true, le-leb, lt-ltb, le-ltb, eqb-true, eq-eqb}
 use Rattle.rules.specs.Count.{any_below}
-use Rattle.rules.specs.Model.{blue, red, Instance, limit_of, task_count, file_count, Schedule, run_at, start_at, finish_at, made_at}
+use Rattle.rules.specs.Model.{blue, red, Instance, limit_of, task_count, file_count, Schedule, run_at, start_at, finish_at}
 use Rattle.rules.specs.Residency.{held}
 use Rattle.rules.specs.Validity.{overlap, over}
-use Rattle.rules.specs.Simulation.{shares_from, task_shares, shares_at, read_at, file_early, early_at}
+use Rattle.rules.specs.Simulation.{shares_from, task_shares, shares_at, file_early, early_at}
 use Rattle.rules.proofs.Tests.{same_test, and-true, and-swap, eqb-sym}
 use Rattle.rules.proofs.CountLaws.{any_some, any_found}
 use Rattle.rules.proofs.ValidLaws.{more-over}
 use Rattle.runs.specs.Overlaps.{overlapping}
 use Rattle.runs.specs.declared.Run.{Run}
-use Rattle.model.specs.declared.residency.FileTimes.{FileTimes}
-use Rattle.model.specs.declared.residency.Transfer.{Transfer}
-use Rattle.model.specs.Holds.{TransferOf, TimesOf}
-use Rattle.std.specs.Prelude.{Option, Some, None}
-use Rattle.validator.specs.Early.{arrival}
 use Rattle.validator.specs.Records.{record_at}
 use Rattle.validator.proofs.OverlapLaws.{overlap-self, overlap-records}
-use Rattle.simulator.specs.Faults.{begun_overlaps, starts_overlapping, departs_early, early_by}
+use Rattle.simulator.specs.Faults.{begun_overlaps, starts_overlapping}
 
 -- ---- 15
 
@@ -82,14 +77,6 @@ module _ (I : Instance) (P : Schedule) where
     pub early-is : any_below (file_count I) (file_early I P t) ≡ early_at I P t
     unfolding early_at
     early-is = refl
-
-    early-by : (k : ℕ) (o : Option Transfer) → TransferOf I P k o
-        → departs_early o (made_at I P k) t || ltb (read_at I P k) (arrival o (made_at I P k)) && eqb (read_at I P k) t ≡ file_early I P t k
-    early-by k (Some m) move = rw (move.moves, move.departs, move.arrives)
-    early-by k None stays = rw stays
-
-    pub early-times : (k : ℕ) (x : FileTimes) → TimesOf I P k x → early_by x t ≡ file_early I P t k
-    early-times k x times = rw (times.made, times.starts) (early-by k x.transfer times.transfer)
 
 -- ---- 17
 

@@ -1,26 +1,12 @@
--- The laws of `Soonest`: of one tick, of either of two tests, of a test that never holds.
-use Rattle.std.proofs.Common.{ℕ, ◌+◌, ◌≤◌, ◌<◌, ◌≡◌, ◌∙◌, refl, sym, min, Bool, true, false, ◌||◌, eqb, Option, Some, None, add-one, arith}
+-- The laws of `Soonest`: of either of two tests, of a test that never holds, of tests that say the same.
+use Rattle.std.proofs.Common.{ℕ, ◌+◌, ◌≤◌, ◌≡◌, ◌∙◌, sym, min, Bool, true, false, ◌||◌, Option, Some, None, add-one, arith}
 use native.Mathlib.Decide.{dec_le}
-use borrow.Author.Tests.{eqb-true, eq-eqb}
 use Rattle.rules.specs.Count.{any_below}
 use Rattle.rules.proofs.Tests.{clash, or_right, by-or}
 use Rattle.model.specs.Layout.{last_tick}
 use Rattle.model.specs.Ticks.{sooner}
 use Rattle.model.proofs.StepLaws.{any-empty}
 use Rattle.simulator.specs.Turns.{SoonestAt, Soonest}
-
--- one tick
-at_most : (t : ℕ) → t ≤ last_tick → (u : ℕ) → eqb t u ≡ true → u ≤ last_tick
-at_most t b u e = omega (arith, eqb-true t u e)
-
-pub soonest-at : (from t : ℕ) → t ≤ last_tick → from ≤ t → Soonest (λ u. eqb t u) from (Some t)
-soonest-at from t b l = record {
-  within = at_most t b;
-  soonest = record { within = b; after = l; holds = eq-eqb t t refl; least = λ u h e. omega (arith, eqb-true t u e) };
-}
-
-pub soonest-past : (from t : ℕ) → t ≤ last_tick → t < from → Soonest (λ u. eqb t u) from None
-soonest-past from t b l = record { within = at_most t b; soonest = λ u h e. omega (arith, eqb-true t u e) }
 
 -- a test that never holds
 pub soonest-none : (p : ℕ → Bool) → ((u : ℕ) → p u ≡ false) → (from : ℕ) → Soonest p from None

@@ -11,7 +11,7 @@ use mathlib.Core.Bool.{Bool, true, false}
 use Rattle.rules.specs.Model.{Instance, Schedule}
 use Rattle.rules.specs.Validity.{Complete, makespan}
 use Rattle.rules.specs.Promises.{WellFormed}
-use Rattle.rules.specs.Simulation.{before, state_at, state_after, is_turn, fault_at, Progress, steps_left, stopped, ended, Simulation, watch}
+use Rattle.rules.specs.Simulation.{state_at, state_after, is_turn, fault_at, Progress, steps_left, stopped, ended, Simulation, watch}
 use Rattle.rules.specs.SimulationPromises.{Faulty}
 use Rattle.rules.proofs.TickFaultLaws.{is-faulty, faulty-is}
 use Rattle.rules.proofs.WalkLaws.{Walked, walk_begins, walk_steps, walk-left, walk-stops, walk_ends}
@@ -37,9 +37,6 @@ module _ (I : Instance) (P : Schedule) {from : ℕ} where
     module _ (t : ℕ) (s : SoonestAt (is_turn I P) from t) where
       pub ahead-left : wanted ≡ false → Ends I P from wanted steps_left
       ahead-left w = not_wanted t w (next-turn t s)
-
-      pub ahead-onto : wanted ≡ true → {f : ℕ} → f ≡ fault_at I P t → f ≡ 0 → (wanted ≡ true) × NextTurn I P from t × (fault_at I P t ≡ 0)
-      ahead-onto w e z = (w, next-turn t s, sym e ∙ z)
 
       pub ahead-fault : wanted ≡ true → {f : ℕ} → f ≡ fault_at I P t → 1 ≤ f → Ends I P from wanted (stopped f t)
       ahead-fault w e d = at_fault t w (next-turn t s) e d
@@ -95,10 +92,6 @@ module _ (I : Instance) (W : WellFormed I) (P : Schedule) (C : Complete I P) {ma
 -- ---- the answer's state
 
 module _ (I : Instance) (P : Schedule) (p : Progress) (t : ℕ) where
-  pub not-stepped : (n : ℕ) → n ≡ 0
-      → ◌≡◌ {A = Simulation} (record { progress = p; made = 0; state = before }) (record { progress = p; made = n; state = state_by I P n t })
-  not-stepped n e = rw e
-
   pub stepped : (n : ℕ) → n ≢ 0 → {rs cs : List ℕ} → rs ≡ (state_at I P t).running → cs ≡ (state_at I P t).contents
       → ◌≡◌ {A = Simulation} (record { progress = p; made = n; state = record { time = t; running = rs; contents = cs } })
       (record { progress = p; made = n; state = state_by I P n t })

@@ -98,6 +98,7 @@ fn over_at(t: &Timetable, tick: u64) -> bool
 }
 
 // The fault of the tick: 15, 16 or 17 in this order, if it has one.
+#[tactic(auto, unfolding(rules::specs::Simulation::fault_at))]
 pub fn fault_at(t: &Timetable, tick: u64) -> Option<TickFault>
     ensures { number_at result ≡ fault_at (instance_in t.now.job) (schedule_in t.now) tick }
 {

@@ -79,7 +79,8 @@ fn next_of_move(t: &Timetable, k: usize, from: u64) -> Option<u64>
     next_of_two(from, transfer.departs, transfer.arrives)
 }
 
-// The next start or end of file k's move or of one of its holds.
+// The next start or end of file k's move or of one of its holds. One function for this and `next_of_task` would take the two holds and the first
+// turn, and be as long as either.
 fn next_of_file(t: &Timetable, k: usize, from: u64) -> Option<u64>
     requires { k < length t.now.job.files.now }
     ensures { Soonest (λ u. file_turns (instance_in t.now.job) (schedule_in t.now) u k) from result }

@@ -2,8 +2,7 @@
 ghost use Rattle.std.specs.Prelude.{◌≡◌};
 ghost use Rattle.rules.specs.Promises.{WellFormed};
 ghost use Rattle.rules.specs.Simulation.{watch as rules-watch};
-ghost use Rattle.model.specs.Jobs.{instance_in, schedule_in};
-ghost use Rattle.model.specs.Jobs.{AllPlaced};
+ghost use Rattle.model.specs.Jobs.{instance_in, schedule_in, AllPlaced};
 ghost use Rattle.simulator.specs.Answers.{as_progress, as_simulation};
 ghost use Rattle.simulator.specs.Walks.{Ahead, state_by};
 

@@ -14,8 +14,8 @@ mod work;
 use std::io::Result;
 
 fn main(rt: HostRuntime) -> Result<()> {
-    rt.write_all(
-        b"of each call: steps already made and steps to make; how it ends, steps made in all, time, task on each processor, where each file is held\n",
+    println!(rt;
+        "of each call: steps already made and steps to make; how it ends, steps made in all, time, task on each processor, where each file is held"
     )?;
     course::examples(&rt)?;
     past::examples(&rt)?;

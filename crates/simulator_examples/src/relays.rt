@@ -3,7 +3,7 @@ use crate::show::show_marked;
 use std::io::Result;
 
 // The course example with task 3 a relay on blue, at the span; with the steps already made and those to make.
-fn at_the_span(rt: &impl Print, what: &[u8], made: u64, steps: u64) -> Result<()> {
+fn at_the_span(rt: &impl Print, what: &str, made: u64, steps: u64) -> Result<()> {
     show_marked(
         rt,
         what,
@@ -15,16 +15,16 @@ fn at_the_span(rt: &impl Print, what: &[u8], made: u64, steps: u64) -> Result<()
 }
 
 fn last(rt: &impl Print) -> Result<()> {
-    at_the_span(rt, b"a relay at 6, the span: the step before it", 0, 4)?;
+    at_the_span(rt, "a relay at 6, the span: the step before it", 0, 4)?;
     at_the_span(
         rt,
-        b"at its tick it is not seen running, and its file is held",
+        "at its tick it is not seen running, and its file is held",
         4,
         1,
     )?;
     at_the_span(
         rt,
-        b"one tick past the span its file is held no more: the end",
+        "one tick past the span its file is held no more: the end",
         5,
         1,
     )
@@ -34,7 +34,7 @@ fn last(rt: &impl Print) -> Result<()> {
 fn inside(rt: &impl Print) -> Result<()> {
     show_marked(
         rt,
-        b"15: a relay inside the run of task 2, at its tick",
+        "15: a relay inside the run of task 2, at its tick",
         b"(board (blue 1 6) (red 1 6))\n(task 1 4 2)\n(task 2 3 5)\n(task 3 0 6)\n(file 1 2 2 1)\n(file 1 3 3 2)\n",
         b"(run 1 2 0)\n(run 2 1 3)\n(run 3 1 5)\n(move 1 2 2)\n(move 1 3 3)\n(claim 6 5 5)\n",
         0,
@@ -46,10 +46,10 @@ fn inside(rt: &impl Print) -> Result<()> {
 fn alone(rt: &impl Print) -> Result<()> {
     let sheet = b"(board (blue 1 6) (red 1 6))\n(task 1 0 2)\n";
     let paper = b"(run 1 1 0)\n(claim 0 0 0)\n";
-    show_marked(rt, b"a relay alone at 0, no step", sheet, paper, 0, 0)?;
+    show_marked(rt, "a relay alone at 0, no step", sheet, paper, 0, 0)?;
     show_marked(
         rt,
-        b"its one step, to the end with span 0",
+        "its one step, to the end with span 0",
         sheet,
         paper,
         0,

@@ -9,7 +9,7 @@ fn sheets(rt: &impl Print) -> Result<()> {
         b"(run 1 2 0)\n(run 2 1 3)\n(run 3 1 6)\n(move 1 2 2)\n(move 1 3 4)\n(claim 8 5 5)\n";
     show_marked(
         rt,
-        b"2: the board line alone, from 2 made, 3 steps",
+        "2: the board line alone, from 2 made, 3 steps",
         b"(board (blue 1 6) (red 1 6))\n",
         paper,
         2,
@@ -17,7 +17,7 @@ fn sheets(rt: &impl Print) -> Result<()> {
     )?;
     show_marked(
         rt,
-        b"2 before 12: a bad line in both texts",
+        "2 before 12: a bad line in both texts",
         b"(board (blue 1 6) (red 1 6))\n",
         b"(run 1 2 0)\n(run 2 01 3)\n(run 3 1 6)\n(move 1 2 2)\n(move 1 3 4)\n(claim 8 5 5)\n",
         0,
@@ -25,7 +25,7 @@ fn sheets(rt: &impl Print) -> Result<()> {
     )?;
     show_marked(
         rt,
-        b"1: a sheet that is too long",
+        "1: a sheet that is too long",
         &[b'\n'; Board::MAX_TEXT + 1],
         paper,
         2,
@@ -39,7 +39,7 @@ fn timetables(rt: &impl Print) -> Result<()> {
         b"(board (blue 1 6) (red 1 6))\n(task 1 4 2)\n(task 2 3 5)\n(task 3 2 6)\n(file 1 2 2 1)\n(file 1 3 3 2)\n";
     show_marked(
         rt,
-        b"14: a move left out, from 2 made, 3 steps",
+        "14: a move left out, from 2 made, 3 steps",
         sheet,
         b"(run 1 2 0)\n(run 2 1 3)\n(run 3 1 6)\n(move 1 3 4)\n(claim 8 5 5)\n",
         2,
@@ -47,7 +47,7 @@ fn timetables(rt: &impl Print) -> Result<()> {
     )?;
     show_marked(
         rt,
-        b"12: a leading zero, no step",
+        "12: a leading zero, no step",
         sheet,
         b"(run 1 2 0)\n(run 2 01 3)\n(run 3 1 6)\n(move 1 2 2)\n(move 1 3 4)\n(claim 8 5 5)\n",
         0,
@@ -55,7 +55,7 @@ fn timetables(rt: &impl Print) -> Result<()> {
     )?;
     show_marked(
         rt,
-        b"12 before 16: no LF behind the claim, and an early move",
+        "12 before 16: no LF behind the claim, and an early move",
         sheet,
         b"(run 1 2 0)\n(run 2 1 3)\n(run 3 1 6)\n(move 1 2 1)\n(move 1 3 4)\n(claim 8 5 5)",
         0,
@@ -63,7 +63,7 @@ fn timetables(rt: &impl Print) -> Result<()> {
     )?;
     show_marked(
         rt,
-        b"11: a timetable that is too long",
+        "11: a timetable that is too long",
         sheet,
         &[b'\n'; Board::MAX_TEXT + 1],
         2,

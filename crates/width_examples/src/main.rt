@@ -6,7 +6,7 @@ use console::show_marks as show;
 use std::io::Result;
 
 // A board sheet with one task that takes a tick on blue and none on red, and a timetable of it.
-fn show_paper<'a>(rt: &impl Print, what: &'a [u8], paper: &'a [u8]) -> Result<()> {
+fn show_paper(rt: &impl Print, what: &str, paper: &[u8]) -> Result<()> {
     show(
         rt,
         what,
@@ -16,7 +16,7 @@ fn show_paper<'a>(rt: &impl Print, what: &'a [u8], paper: &'a [u8]) -> Result<()
 }
 
 // A board sheet with a file that moves from blue to red, and a timetable of it.
-fn show_move<'a>(rt: &impl Print, what: &'a [u8], paper: &'a [u8]) -> Result<()> {
+fn show_move(rt: &impl Print, what: &str, paper: &[u8]) -> Result<()> {
     show(
         rt,
         what,
@@ -26,7 +26,7 @@ fn show_move<'a>(rt: &impl Print, what: &'a [u8], paper: &'a [u8]) -> Result<()>
 }
 
 // A board sheet and the timetable that is right for it where B is 1000000000.
-fn show_sheet<'a>(rt: &impl Print, what: &'a [u8], sheet: &'a [u8]) -> Result<()> {
+fn show_sheet(rt: &impl Print, what: &str, sheet: &[u8]) -> Result<()> {
     show(rt, what, sheet, b"(run 1 1 0)\n(claim 1000000000 0 0)\n")
 }
 
@@ -34,22 +34,22 @@ fn show_sheet<'a>(rt: &impl Print, what: &'a [u8], sheet: &'a [u8]) -> Result<()
 fn run_time_on_blue(rt: &impl Print) -> Result<()> {
     show_sheet(
         rt,
-        b"B of 1000000000",
+        "B of 1000000000",
         b"(board (blue 1 0) (red 1 0))\n(task 1 1000000000 1)\n",
     )?;
     show_sheet(
         rt,
-        b"B of 1000000001",
+        "B of 1000000001",
         b"(board (blue 1 0) (red 1 0))\n(task 1 1000000001 1)\n",
     )?;
     show_sheet(
         rt,
-        b"B of 12 digits",
+        "B of 12 digits",
         b"(board (blue 1 0) (red 1 0))\n(task 1 999999999999 1)\n",
     )?;
     show_sheet(
         rt,
-        b"B of 13 digits",
+        "B of 13 digits",
         b"(board (blue 1 0) (red 1 0))\n(task 1 1000000000000 1)\n",
     )
 }
@@ -58,22 +58,22 @@ fn run_time_on_blue(rt: &impl Print) -> Result<()> {
 fn run_time_on_red(rt: &impl Print) -> Result<()> {
     show_sheet(
         rt,
-        b"R of 1000000000",
+        "R of 1000000000",
         b"(board (blue 1 0) (red 1 0))\n(task 1 1000000000 1000000000)\n",
     )?;
     show_sheet(
         rt,
-        b"R of 1000000001",
+        "R of 1000000001",
         b"(board (blue 1 0) (red 1 0))\n(task 1 1000000000 1000000001)\n",
     )?;
     show_sheet(
         rt,
-        b"R of 12 digits",
+        "R of 12 digits",
         b"(board (blue 1 0) (red 1 0))\n(task 1 1000000000 999999999999)\n",
     )?;
     show_sheet(
         rt,
-        b"R of 13 digits",
+        "R of 13 digits",
         b"(board (blue 1 0) (red 1 0))\n(task 1 1000000000 1000000000000)\n",
     )
 }
@@ -82,27 +82,27 @@ fn run_time_on_red(rt: &impl Print) -> Result<()> {
 fn move_time(rt: &impl Print) -> Result<()> {
     show_sheet(
         rt,
-        b"C of 1000000001",
+        "C of 1000000001",
         b"(board (blue 1 0) (red 1 0))\n(task 1 1 1)\n(task 2 1 1)\n(file 1 2 0 1000000001)\n",
     )?;
     show_sheet(
         rt,
-        b"C of 12 digits",
+        "C of 12 digits",
         b"(board (blue 1 0) (red 1 0))\n(task 1 1 1)\n(task 2 1 1)\n(file 1 2 0 999999999999)\n",
     )?;
     show_sheet(
         rt,
-        b"C of 13 digits",
+        "C of 13 digits",
         b"(board (blue 1 0) (red 1 0))\n(task 1 1 1)\n(task 2 1 1)\n(file 1 2 0 1000000000000)\n",
     )?;
     show_move(
         rt,
-        b"C of 1000000000",
+        "C of 1000000000",
         b"(run 1 1 0)\n(run 2 2 1000000001)\n(move 1 2 1)\n(claim 1000000002 5 5)\n",
     )?;
     show_move(
         rt,
-        b"C of 1000000000, the reader one tick early",
+        "C of 1000000000, the reader one tick early",
         b"(run 1 1 0)\n(run 2 2 1000000000)\n(move 1 2 1)\n(claim 1000000001 5 5)\n",
     )
 }
@@ -111,22 +111,22 @@ fn move_time(rt: &impl Print) -> Result<()> {
 fn memory_limit(rt: &impl Print) -> Result<()> {
     show_sheet(
         rt,
-        b"M of 999999999",
+        "M of 999999999",
         b"(board (blue 1 999999999) (red 1 0))\n(task 1 1000000000 1)\n",
     )?;
     show_sheet(
         rt,
-        b"M of 1000000000",
+        "M of 1000000000",
         b"(board (blue 1 1000000000) (red 1 0))\n(task 1 1 1)\n",
     )?;
     show_sheet(
         rt,
-        b"M of 12 digits",
+        "M of 12 digits",
         b"(board (blue 1 0) (red 1 999999999999))\n(task 1 1 1)\n",
     )?;
     show_sheet(
         rt,
-        b"M of 13 digits",
+        "M of 13 digits",
         b"(board (blue 1 0) (red 1 1000000000000))\n(task 1 1 1)\n",
     )
 }
@@ -135,17 +135,17 @@ fn memory_limit(rt: &impl Print) -> Result<()> {
 fn processors(rt: &impl Print) -> Result<()> {
     show_sheet(
         rt,
-        b"P of 10 digits",
+        "P of 10 digits",
         b"(board (blue 1000000000 0) (red 1 0))\n(task 1 1 1)\n",
     )?;
     show_sheet(
         rt,
-        b"P of 12 digits",
+        "P of 12 digits",
         b"(board (blue 1 0) (red 100000000000 0))\n(task 1 1 1)\n",
     )?;
     show_sheet(
         rt,
-        b"P of 13 digits",
+        "P of 13 digits",
         b"(board (blue 1000000000000 0) (red 1 0))\n(task 1 1 1)\n",
     )
 }
@@ -154,17 +154,17 @@ fn processors(rt: &impl Print) -> Result<()> {
 fn task_of_a_task(rt: &impl Print) -> Result<()> {
     show_sheet(
         rt,
-        b"i of 10 digits",
+        "i of 10 digits",
         b"(board (blue 1 0) (red 1 0))\n(task 1000000000 1 1)\n",
     )?;
     show_sheet(
         rt,
-        b"i of 12 digits",
+        "i of 12 digits",
         b"(board (blue 1 0) (red 1 0))\n(task 100000000000 1 1)\n",
     )?;
     show_sheet(
         rt,
-        b"i of 13 digits",
+        "i of 13 digits",
         b"(board (blue 1 0) (red 1 0))\n(task 1000000000000 1 1)\n",
     )
 }
@@ -173,22 +173,22 @@ fn task_of_a_task(rt: &impl Print) -> Result<()> {
 fn tasks_of_a_file(rt: &impl Print) -> Result<()> {
     show_sheet(
         rt,
-        b"i of a file of 12 digits",
+        "i of a file of 12 digits",
         b"(board (blue 1 0) (red 1 0))\n(task 1 1 1)\n(file 100000000000 2 1 1)\n",
     )?;
     show_sheet(
         rt,
-        b"i of a file of 13 digits",
+        "i of a file of 13 digits",
         b"(board (blue 1 0) (red 1 0))\n(task 1 1 1)\n(file 1000000000000 2 1 1)\n",
     )?;
     show_sheet(
         rt,
-        b"j of 12 digits",
+        "j of 12 digits",
         b"(board (blue 1 0) (red 1 0))\n(task 1 1 1)\n(file 1 100000000000 1 1)\n",
     )?;
     show_sheet(
         rt,
-        b"j of 13 digits",
+        "j of 13 digits",
         b"(board (blue 1 0) (red 1 0))\n(task 1 1 1)\n(file 1 1000000000000 1 1)\n",
     )
 }
@@ -197,23 +197,23 @@ fn tasks_of_a_file(rt: &impl Print) -> Result<()> {
 fn size(rt: &impl Print) -> Result<()> {
     show(
         rt,
-        b"F of 1000000",
+        "F of 1000000",
         b"(board (blue 1 1000000) (red 1 0))\n(task 1 1 1)\n(task 2 1 1)\n(file 1 2 1000000 1)\n",
         b"(run 1 1 0)\n(run 2 1 1)\n(claim 2 1000000 0)\n",
     )?;
     show_sheet(
         rt,
-        b"F of 1000001",
+        "F of 1000001",
         b"(board (blue 1 0) (red 1 0))\n(task 1 1 1)\n(task 2 1 1)\n(file 1 2 1000001 1)\n",
     )?;
     show_sheet(
         rt,
-        b"F of 12 digits",
+        "F of 12 digits",
         b"(board (blue 1 0) (red 1 0))\n(task 1 1 1)\n(task 2 1 1)\n(file 1 2 999999999999 1)\n",
     )?;
     show_sheet(
         rt,
-        b"F of 13 digits",
+        "F of 13 digits",
         b"(board (blue 1 0) (red 1 0))\n(task 1 1 1)\n(task 2 1 1)\n(file 1 2 1000000000000 1)\n",
     )
 }
@@ -222,22 +222,22 @@ fn size(rt: &impl Print) -> Result<()> {
 fn start(rt: &impl Print) -> Result<()> {
     show_paper(
         rt,
-        b"s of 999999999",
+        "s of 999999999",
         b"(run 1 1 999999999)\n(claim 1000000000 0 0)\n",
     )?;
     show_paper(
         rt,
-        b"s of 1000000000",
+        "s of 1000000000",
         b"(run 1 1 1000000000)\n(claim 1000000001 0 0)\n",
     )?;
     show_paper(
         rt,
-        b"s of 999999999998",
+        "s of 999999999998",
         b"(run 1 1 999999999998)\n(claim 999999999999 0 0)\n",
     )?;
     show_paper(
         rt,
-        b"s of 999999999999, a task that takes no time",
+        "s of 999999999999, a task that takes no time",
         b"(run 1 2 999999999999)\n(claim 999999999999 0 0)\n",
     )
 }
@@ -246,12 +246,12 @@ fn start(rt: &impl Print) -> Result<()> {
 fn span_over_the_range(rt: &impl Print) -> Result<()> {
     show_paper(
         rt,
-        b"s of 999999999999, the span over the range",
+        "s of 999999999999, the span over the range",
         b"(run 1 1 999999999999)\n(claim 999999999999 0 0)\n",
     )?;
     show_paper(
         rt,
-        b"the same with the span claimed in 13 digits",
+        "the same with the span claimed in 13 digits",
         b"(run 1 1 999999999999)\n(claim 1000000000000 0 0)\n",
     )
 }
@@ -260,12 +260,12 @@ fn span_over_the_range(rt: &impl Print) -> Result<()> {
 fn long_start(rt: &impl Print) -> Result<()> {
     show_paper(
         rt,
-        b"s of 13 digits",
+        "s of 13 digits",
         b"(run 1 1 1000000000000)\n(claim 1 0 0)\n",
     )?;
     show_paper(
         rt,
-        b"s of 12 digits with a leading 0",
+        "s of 12 digits with a leading 0",
         b"(run 1 1 099999999999)\n(claim 1 0 0)\n",
     )
 }
@@ -274,12 +274,12 @@ fn long_start(rt: &impl Print) -> Result<()> {
 fn peak(rt: &impl Print) -> Result<()> {
     show_paper(
         rt,
-        b"a peak of 12 digits",
+        "a peak of 12 digits",
         b"(run 1 1 0)\n(claim 1 999999999999 0)\n",
     )?;
     show_paper(
         rt,
-        b"a peak of 13 digits",
+        "a peak of 13 digits",
         b"(run 1 1 0)\n(claim 1 0 1000000000000)\n",
     )
 }
@@ -288,50 +288,46 @@ fn peak(rt: &impl Print) -> Result<()> {
 fn move_start(rt: &impl Print) -> Result<()> {
     show_move(
         rt,
-        b"t of 998999999998",
+        "t of 998999999998",
         b"(run 1 1 998999999997)\n(run 2 2 999999999998)\n(move 1 2 998999999998)\n(claim 999999999999 5 5)\n",
     )?;
     show_move(
         rt,
-        b"t of 999999999999, which no reader can await",
+        "t of 999999999999, which no reader can await",
         b"(run 1 1 0)\n(run 2 2 999999999999)\n(move 1 2 999999999999)\n(claim 999999999999 5 5)\n",
     )?;
     show_move(
         rt,
-        b"t of 13 digits",
+        "t of 13 digits",
         b"(run 1 1 0)\n(run 2 2 999999999999)\n(move 1 2 1000000000000)\n(claim 999999999999 5 5)\n",
     )
 }
 
 // p: as it was.
 fn processor(rt: &impl Print) -> Result<()> {
-    show_paper(rt, b"p of 10 digits", b"(run 1 1000000000 0)\n")?;
-    show_paper(rt, b"p of 12 digits", b"(run 1 100000000000 0)\n")?;
-    show_paper(rt, b"p of 13 digits", b"(run 1 1000000000000 0)\n")
+    show_paper(rt, "p of 10 digits", b"(run 1 1000000000 0)\n")?;
+    show_paper(rt, "p of 12 digits", b"(run 1 100000000000 0)\n")?;
+    show_paper(rt, "p of 13 digits", b"(run 1 1000000000000 0)\n")
 }
 
 // i of a run: as it was.
 fn task_of_a_run(rt: &impl Print) -> Result<()> {
-    show_paper(rt, b"i of a run of 12 digits", b"(run 100000000000 1 0)\n")?;
-    show_paper(rt, b"i of a run of 13 digits", b"(run 1000000000000 1 0)\n")
+    show_paper(rt, "i of a run of 12 digits", b"(run 100000000000 1 0)\n")?;
+    show_paper(rt, "i of a run of 13 digits", b"(run 1000000000000 1 0)\n")
 }
 
 // i and j of a move: as they were.
 fn tasks_of_a_move(rt: &impl Print) -> Result<()> {
+    show_paper(rt, "i of a move of 12 digits", b"(move 100000000000 1 0)\n")?;
     show_paper(
         rt,
-        b"i of a move of 12 digits",
-        b"(move 100000000000 1 0)\n",
-    )?;
-    show_paper(
-        rt,
-        b"i of a move of 13 digits",
+        "i of a move of 13 digits",
         b"(move 1000000000000 1 0)\n",
     )?;
-    show_paper(rt, b"j of a move of 10 digits", b"(move 1 1000000000 0)\n")?;
+    show_paper(rt, "j of a move of 10 digits", b"(move 1 1000000000 0)\n")?;
     show_paper(
         rt,
-        b"j of a move of 13 digits",
+        "j of a move of 13 digits",
         b"(move 1 1000000000000 0)\n",
     )
 }

@@ -6,37 +6,37 @@ use std::io::Result;
 fn ranges(rt: &impl Print) -> Result<()> {
     show(
         rt,
-        b"W left out",
+        "W left out",
         b"(board (blue 1 0) (red 1 0))\n(task 1 4 2)\n",
         b"(run 1 1 0)\n(claim 4 0 0)\n",
     )?;
     show(
         rt,
-        b"W of 1",
+        "W of 1",
         b"(board (blue 1 1) (red 1 0))\n(task 1 4 2 1)\n",
         b"(run 1 1 0)\n(claim 4 1 0)\n",
     )?;
     show(
         rt,
-        b"W of 1000000",
+        "W of 1000000",
         b"(board (blue 1 1000000) (red 1 0))\n(task 1 4 2 1000000)\n",
         b"(run 1 1 0)\n(claim 4 1000000 0)\n",
     )?;
     show(
         rt,
-        b"3: a written 0",
+        "3: a written 0",
         b"(board (blue 1 0) (red 1 0))\n(task 1 4 2 0)\n",
         b"(run 1 1 0)\n(claim 4 0 0)\n",
     )?;
     show(
         rt,
-        b"3: W of 1000001",
+        "3: W of 1000001",
         b"(board (blue 1 1000001) (red 1 0))\n(task 1 4 2 1000001)\n",
         b"(run 1 1 0)\n(claim 4 1000001 0)\n",
     )?;
     show(
         rt,
-        b"3: W of 12 digits",
+        "3: W of 12 digits",
         b"(board (blue 1 0) (red 1 0))\n(task 1 4 2 999999999999)\n",
         b"",
     )
@@ -46,31 +46,31 @@ fn ranges(rt: &impl Print) -> Result<()> {
 fn forms(rt: &impl Print) -> Result<()> {
     show(
         rt,
-        b"2: W of 13 digits",
+        "2: W of 13 digits",
         b"(board (blue 1 0) (red 1 0))\n(task 1 4 2 1000000000000)\n",
         b"",
     )?;
     show(
         rt,
-        b"2: W with a leading zero",
+        "2: W with a leading zero",
         b"(board (blue 1 5) (red 1 0))\n(task 1 4 2 05)\n",
         b"",
     )?;
     show(
         rt,
-        b"2: a space and no W",
+        "2: a space and no W",
         b"(board (blue 1 5) (red 1 0))\n(task 1 4 2 )\n",
         b"",
     )?;
     show(
         rt,
-        b"2: a number behind W",
+        "2: a number behind W",
         b"(board (blue 1 5) (red 1 0))\n(task 1 4 2 5 5)\n",
         b"",
     )?;
     show(
         rt,
-        b"2: W without its LF",
+        "2: W without its LF",
         b"(board (blue 1 5) (red 1 0))\n(task 1 4 2 5)",
         b"",
     )
@@ -80,19 +80,19 @@ fn forms(rt: &impl Print) -> Result<()> {
 fn order(rt: &impl Print) -> Result<()> {
     show(
         rt,
-        b"4: not the next task",
+        "4: not the next task",
         b"(board (blue 1 5) (red 1 0))\n(task 2 4 2 5)\n",
         b"",
     )?;
     show(
         rt,
-        b"3: not the next task either, with a written 0",
+        "3: not the next task either, with a written 0",
         b"(board (blue 1 5) (red 1 0))\n(task 2 4 2 0)\n",
         b"",
     )?;
     show(
         rt,
-        b"4: a task with W behind a file",
+        "4: a task with W behind a file",
         b"(board (blue 1 5) (red 1 0))\n(task 1 4 2)\n(task 2 4 2 5)\n(file 1 2 0 1)\n(task 3 4 2 5)\n",
         b"",
     )

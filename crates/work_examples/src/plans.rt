@@ -3,23 +3,23 @@ use console::{Planner, show_plan};
 use std::io::Result;
 
 // All four planners on a sheet.
-fn show<'a>(rt: &impl Print, what: &'a [u8], sheet: &'a [u8]) -> Result<()> {
-    show_plan(rt, what, b", MemHEFT:", Planner::MemHeft, sheet)?;
-    show_plan(rt, what, b", MemMinMin:", Planner::MemMinMin, sheet)?;
-    show_plan(rt, what, b", HEFT:", Planner::Heft, sheet)?;
-    show_plan(rt, what, b", MINMIN:", Planner::MinMin, sheet)
+fn show(rt: &impl Print, what: &str, sheet: &[u8]) -> Result<()> {
+    show_plan(rt, what, Planner::MemHeft, sheet)?;
+    show_plan(rt, what, Planner::MemMinMin, sheet)?;
+    show_plan(rt, what, Planner::Heft, sheet)?;
+    show_plan(rt, what, Planner::MinMin, sheet)
 }
 
 // W alone.
 fn alone(rt: &impl Print) -> Result<()> {
     show(
         rt,
-        b"W of 5 over both limits of 4",
+        "W of 5 over both limits of 4",
         b"(board (blue 1 4) (red 1 4))\n(task 1 2 2 5)\n",
     )?;
     show(
         rt,
-        b"W of 5 over the limit of red, the faster colour",
+        "W of 5 over the limit of red, the faster colour",
         b"(board (blue 1 5) (red 1 4))\n(task 1 9 2 5)\n",
     )
 }
@@ -28,12 +28,12 @@ fn alone(rt: &impl Print) -> Result<()> {
 fn third_start(rt: &impl Print) -> Result<()> {
     show(
         rt,
-        b"W of 4 fits start 4 and not start 3",
+        "W of 4 fits start 4 and not start 3",
         b"(board (blue 1 5) (red 1 9))\n(task 1 9 1)\n(task 2 1 9 4)\n(file 1 2 2 1)\n",
     )?;
     show(
         rt,
-        b"W of 3 fits both",
+        "W of 3 fits both",
         b"(board (blue 1 5) (red 1 9))\n(task 1 9 1)\n(task 2 1 9 3)\n(file 1 2 2 1)\n",
     )
 }
@@ -42,22 +42,22 @@ fn third_start(rt: &impl Print) -> Result<()> {
 fn waiting(rt: &impl Print) -> Result<()> {
     show(
         rt,
-        b"two of W 3 on 5 blocks: the second waits",
+        "two of W 3 on 5 blocks: the second waits",
         b"(board (blue 2 5) (red 1 0))\n(task 1 4 9 3)\n(task 2 4 9 3)\n",
     )?;
     show(
         rt,
-        b"limits of all W: none waits",
+        "limits of all W: none waits",
         b"(board (blue 2 6) (red 1 6))\n(task 1 4 9 3)\n(task 2 4 9 3)\n",
     )?;
     show(
         rt,
-        b"W left out: none waits",
+        "W left out: none waits",
         b"(board (blue 2 5) (red 1 0))\n(task 1 4 9)\n(task 2 4 9)\n",
     )?;
     show(
         rt,
-        b"relays of W 3: the second waits one tick",
+        "relays of W 3: the second waits one tick",
         b"(board (blue 2 5) (red 1 0))\n(task 1 0 9 3)\n(task 2 0 9 3)\n",
     )
 }
@@ -66,12 +66,12 @@ fn waiting(rt: &impl Print) -> Result<()> {
 fn ample(rt: &impl Print) -> Result<()> {
     show(
         rt,
-        b"limits of all files and all W",
+        "limits of all files and all W",
         b"(board (blue 1 6) (red 1 6))\n(task 1 9 1 1)\n(task 2 1 9 3)\n(file 1 2 2 1)\n",
     )?;
     show(
         rt,
-        b"limits of all files alone",
+        "limits of all files alone",
         b"(board (blue 1 2) (red 1 2))\n(task 1 9 1 1)\n(task 2 1 9 3)\n(file 1 2 2 1)\n",
     )
 }

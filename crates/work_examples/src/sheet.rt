@@ -1,22 +1,13 @@
 // A sheet with W, and what was read of it written in the same forms: the same bytes.
-ghost use Rattle.model.specs.Layout.{JobInBounds};
-
 use model::job::Job;
-use model::layout;
-use model::layout::Shape;
+use model::layout::Numbers;
 use std::io::Result;
 
-// Prints the sheet of an instance.
-fn print_sheet(rt: &impl Print, shape: Shape, job: &layout::Numbers) -> Result<()>
-    requires { JobInBounds shape job.now }
-{
+// Prints the sheet of a job.
+fn print_sheet(rt: &impl Print, job: &Job) -> Result<()> {
     let mut out = io::buffer();
-    let lent = Job {
-        shape,
-        numbers: job,
-    };
-    if instance::instance_size(&lent) <= out.len() {
-        let n = instance::write(&lent, &mut out);
+    if instance::instance_size(job) <= out.len() {
+        let n = instance::write(job, &mut out);
         rt.write_all(&out[..n])?;
     }
     Ok(())
@@ -24,14 +15,14 @@ fn print_sheet(rt: &impl Print, shape: Shape, job: &layout::Numbers) -> Result<(
 
 // A sheet as it is handed in, and what was read of it.
 fn show(rt: &impl Print, sheet: &[u8]) -> Result<()> {
-    rt.write_all(b"a sheet:\n")?;
+    println!(rt; "a sheet:")?;
     rt.write_all(sheet)?;
-    rt.write_all(b"written back:\n")?;
-    let mut job = layout::Numbers::new();
-    let Ok(shape) = instance::read(sheet, &mut job) else {
+    println!(rt; "written back:")?;
+    let mut numbers = Numbers::new();
+    let Ok(job) = instance::job_of(sheet, &mut numbers) else {
         return Ok(());
     };
-    print_sheet(rt, shape, &job)
+    print_sheet(rt, &job)
 }
 
 pub fn examples(rt: &impl Print) -> Result<()> {

@@ -1,18 +1,17 @@
--- The digits passed spell v.
-use Rattle.std.proofs.Common.{sym, ◌∙◌, arith}
-use Rattle.std.proofs.lemmas.Grind.{common_steps}
-use Rattle.framewatch.proofs.DecimalLaws.{reading-start, reading-more, reading-stop, reading-end}
+-- `number_of` meets its contract: digits are ASCII, and so a text that can be parsed.
+use Rattle.std.proofs.Common.{sym, ◌∙◌}
+use Rattle.std.proofs.lemmas.Str.{IsUtf8-from_ascii}
+use Rattle.framewatch.proofs.DecimalLaws.{digits-ascii, number-none, number-is}
 use Rattle.framewatch.proofs.number.number_of.Goals as goal
 
-pub loop-b-init : goal.loop-b-init
-loop-b-init c = reading-start _ (grind (arith, common_steps))
+pub returns-then-not-all_digits : goal.returns-then-not-all_digits
+returns-then-not-all_digits c = number-none c.args.text.now (sym c.all_digits.ensures ∙ c.if-not-all_digits.true)
 
-pub returns-in_err-v : goal.returns-in_err-v
-returns-in_err-v c =
-    rw c.from_residual.ensures (reading-stop c.loop-b.invariant c.loop-b-test.true (sym c.with_digit.ensures ∙ c.in_err-v.was))
+pub returns-in-Err : goal.returns-in-Err
+returns-in-Err c =
+    absurd (c.in-Err.ensures.cases.0 (IsUtf8-from_ascii c.args.text.now (digits-ascii c.args.text.now (sym c.all_digits.ensures ∙ c.if-not-all_digits.false))))
 
-pub loop-b-preserved : goal.loop-b-preserved
-loop-b-preserved c = reading-more c.loop-b.invariant c.loop-b-test.true _ (sym c.with_digit.ensures ∙ c.in_ok-v.was)
-
-pub returns : goal.returns
-returns c = reading-end c.loop-b.invariant c.loop-b-test.false
+pub returns-in-Ok : goal.returns-in-Ok
+returns-in-Ok c =
+    c.ok.ensures.value
+    ∙ number-is c.args.text.now (sym c.all_digits.ensures ∙ c.if-not-all_digits.false) c.parse.result (rw c.in-Ok.ensures.cases.0 at c.parse.ensures.value.0)

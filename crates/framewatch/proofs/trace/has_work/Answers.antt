@@ -1,4 +1,5 @@
 -- `has_work` meets its contract.
+use lib.ListN.{length}
 use Rattle.std.proofs.Common.{ltb, rules}
 use Rattle.rules.specs.Model.{work_at}
 use Rattle.model.specs.Jobs.{instance_in}
@@ -9,4 +10,4 @@ pub returns : goal.returns
 returns c =
     let j = c.args.job.now in
     let r = c.any.ensures.runs in
-    any-range _ _ j.shape.tasks (λ i. ltb 0 (work_at (instance_in j) i)) r.0 (search rules) (search rules) (search rules) (λ k b l e. search rules) c.any.result r.2
+    any-range _ _ (length j.tasks.now) (λ i. ltb 0 (work_at (instance_in j) i)) r.0 (search rules) (search rules) (search rules) (λ k b l e. search rules) c.any.result r.2

@@ -1,5 +1,5 @@
 -- `running_at` meets its contract: the closure answers what a processor runs.
-use Rattle.std.proofs.Common.{suc, ◌∙◌, ap, add-one, rules}
+use Rattle.std.proofs.Common.{suc, add-one, rules}
 use Rattle.rules.specs.Limits.{all_processors}
 use Rattle.rules.specs.Simulation.{running_on}
 use Rattle.model.specs.Jobs.{instance_in, schedule_in}

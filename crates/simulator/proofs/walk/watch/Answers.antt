@@ -1,7 +1,6 @@
 use Rattle.std.proofs.Common.{arith}
 use borrow.Author.Tests.{ltb-true}
 use Rattle.model.specs.Jobs.{instance_in, schedule_in}
-use Rattle.model.specs.Layout.{entries_of}
 use Rattle.model.proofs.JobLaws.{placed-complete}
 use Rattle.simulator.proofs.StepLaws.{begins, goes, walk-over}
 use Rattle.simulator.proofs.walk.watch.Goals as goal
