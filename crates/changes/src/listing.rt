@@ -55,7 +55,15 @@ pub fn sorted_changes(t: &Timetable, colour: Colour, changes: &mut Changes)
     ensures upper_bound { array_vec_len changes.new ≤ capacity }
 {
     changes.clear();
-    push_all(t.job.files.len(), |k| (t.hold_of(k, colour), t.job.size(k)), changes);
-    push_all(t.job.tasks.len(), |i| (t.work_hold(i, colour), t.job.work(i)), changes);
+    push_all(
+        t.job.files.len(),
+        |k| (t.hold_of(k, colour), t.job.size(k)),
+        changes,
+    );
+    push_all(
+        t.job.tasks.len(),
+        |i| (t.work_hold(i, colour), t.job.work(i)),
+        changes,
+    );
     sort(changes.as_mut_slice());
 }

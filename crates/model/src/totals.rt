@@ -40,8 +40,16 @@ impl Timetable<'_> {
         ensures value { result ≡ held (instance_in self.now.job) (schedule_in self.now) (as_colour colour) t }
         ensures upper_bound { result ≤ most_held }
     {
-        let files = held_of(self.job.files.len(), |k| (self.hold_of(k, colour), self.job.size(k)), t);
-        let work = held_of(self.job.tasks.len(), |i| (self.work_hold(i, colour), self.job.work(i)), t);
+        let files = held_of(
+            self.job.files.len(),
+            |k| (self.hold_of(k, colour), self.job.size(k)),
+            t,
+        );
+        let work = held_of(
+            self.job.tasks.len(),
+            |i| (self.work_hold(i, colour), self.job.work(i)),
+            t,
+        );
         files + work
     }
 }

@@ -15,19 +15,19 @@ loop-k-preserved g c =
     let small = c.requires.small c.loop-k.k c.residency-hold.result c.loop-k-test.true c.residency-hold.ensures in
     elim c.if-covers.branch [
       | then-covers w ↦ record {
-          value = λ f h.
-              let e = h c.loop-k.k c.residency-hold.result c.loop-k-test.true c.residency-hold.ensures in
-              let on : covers (f c.loop-k.k).hold c.args.t ≡ true = rw (← e.0, ← c.covers.ensures) w.if-covers.true in
-              omega (arith, sum-yes (λ k. covers (f k).hold c.args.t) (λ k. (f k).size) c.loop-k.k on, c.loop-k.invariant.value f h, e.1);
-          upper_bound = omega arith;
-        }
+        value = λ f h.
+            let e = h c.loop-k.k c.residency-hold.result c.loop-k-test.true c.residency-hold.ensures in
+            let on : covers (f c.loop-k.k).hold c.args.t ≡ true = rw (← e.0, ← c.covers.ensures) w.if-covers.true in
+            omega (arith, sum-yes (λ k. covers (f k).hold c.args.t) (λ k. (f k).size) c.loop-k.k on, c.loop-k.invariant.value f h, e.1);
+        upper_bound = omega arith;
+      }
       | else-covers w ↦ record {
-          value = λ f h.
-              let e = h c.loop-k.k c.residency-hold.result c.loop-k-test.true c.residency-hold.ensures in
-              let off : covers (f c.loop-k.k).hold c.args.t ≡ false = rw (← e.0, ← c.covers.ensures) w.if-covers.false in
-              omega (arith, sum-no (λ k. covers (f k).hold c.args.t) (λ k. (f k).size) c.loop-k.k off, c.loop-k.invariant.value f h);
-          upper_bound = omega arith;
-        }
+        value = λ f h.
+            let e = h c.loop-k.k c.residency-hold.result c.loop-k-test.true c.residency-hold.ensures in
+            let off : covers (f c.loop-k.k).hold c.args.t ≡ false = rw (← e.0, ← c.covers.ensures) w.if-covers.false in
+            omega (arith, sum-no (λ k. covers (f k).hold c.args.t) (λ k. (f k).size) c.loop-k.k off, c.loop-k.invariant.value f h);
+        upper_bound = omega arith;
+      }
     ]
 
 pub returns-clause-value : goal.returns-clause-value
