@@ -39,7 +39,7 @@ impl Links<'_> {
         }
     }
 
-    // The first of the files that have the task at that end.
+    // The first of the files that have the task at that end. The arms here and in `next` name a field each: a closure would be longer.
     fn first(&self, end: End, task: usize) -> Option<usize>
         requires { task < length self.now.job.tasks.now }
         ensures { Next (length self.now.job.files.now) (has_at end (instance_in self.now.job) task) 0 result }

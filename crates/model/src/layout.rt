@@ -81,7 +81,7 @@ impl Numbers {
     }
 }
 
-// Where and when a task runs: processor 0 if it is not placed.
+// Where and when a task runs: processor 0 if it is not placed. Processors count from 1, and the rules' run has 0 for none, so the code's has.
 #[derive(Clone, Copy)]
 pub struct Run {
     pub processor: u64,

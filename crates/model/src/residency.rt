@@ -89,7 +89,7 @@ impl Timetable<'_> {
     }
 
     // Until when task i's run keeps the files that it reads and its working memory: its finish, but the tick after its start if it takes no
-    // time. The one place of the code that says so.
+    // time. Marker and simulator ask here; a planner's placing works it out of its trial.
     pub fn release(&self, i: usize) -> u64
         requires { i < length self.now.job.tasks.now }
         ensures value { result ≡ release_at (instance_in self.now.job) (schedule_in self.now) i }

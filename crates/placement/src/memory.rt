@@ -96,7 +96,7 @@ fn vacate(staircase: &mut Staircase, start: u64, incoming: u64)
     change_if(staircase, start, incoming, false);
 }
 
-// Both memories' staircases with the task placed.
+// Both memories' staircases with the task placed. The arms name which memory is occupied and which is left: both are lent to be changed.
 pub fn both_memories(
     links: &Links,
     schedule: &layout::Schedule,

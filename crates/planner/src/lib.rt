@@ -22,7 +22,7 @@ use starts::memory::Memory;
 pub mod claim;
 pub mod rounds;
 
-// HEFT and MINMIN: memory aware, or plain.
+// HEFT and MINMIN: memory aware, or plain. Which one it is says which call makes a round, and no more: a match of two arms.
 #[derive(Clone, Copy)]
 pub enum Rule {
     Heft(Memory),
@@ -57,8 +57,7 @@ fn memory_of(rule: Rule) -> Memory
     ensures { as_memory result ≡ memory_of (as_planner rule) }
 {
     match rule {
-        Rule::Heft(memory) => memory,
-        Rule::MinMin(memory) => memory,
+        Rule::Heft(memory) | Rule::MinMin(memory) => memory,
     }
 }
 

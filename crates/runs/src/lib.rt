@@ -29,14 +29,14 @@ pub fn overlapping_runs(a: Run, b: Run) -> bool
     a.processor == b.processor && starts_before_finish(a, b) && starts_before_finish(b, a)
 }
 
-// Whether a run overlaps one of those behind it: the core's step, which `first_overlap` takes at each run.
+// Whether a run overlaps one of those behind it, which `first_overlap` asks of each run.
 fn overlaps_any(later: &[Run], run: Run) -> bool
     ensures { IsTrue result ↔ SomeIndex later.now (λ k. overlaps_at later.now run k ≡ true) }
 {
     later.iter().any(|other| overlapping_runs(*other, run))
 }
 
-// The thin function: it walks the lent runs, and leaves the work to `overlaps_any`. The lowest index whose run overlaps another's.
+// The lowest index whose run overlaps another's: a walk over the lent runs, which leaves the work to `overlaps_any`.
 pub fn first_overlap(runs: &[Run]) -> Option<usize>
     ensures in_bounds { IfSome result (λ i. i < length runs.now) }
     ensures lowest { FirstOverlap runs.now (length runs.now) (unwrap_or result (length runs.now)) }

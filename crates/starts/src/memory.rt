@@ -15,7 +15,7 @@ ghost use Rattle.starts.specs.Kept.{TicksWithin};
 use needs::demand::Demand;
 use staircase::Staircase;
 
-// Memory aware, or plain: with starts 3 and 4 left out.
+// Memory aware, or plain: with starts 3 and 4 left out. It is asked twice, here and for the planner's own board, by a match of two arms.
 #[derive(Clone, Copy)]
 pub enum Memory {
     Aware,

@@ -8,7 +8,8 @@ use crate::lines::Taken;
 use crate::numerals::number;
 
 // What a form finds at the front of a text: the text's first line, without its LF, that line's first four numbers, 0 for each that the form
-// does not have, and the text behind the LF. The line is handed on as a part of the text, though the readers need its numbers alone.
+// does not have, and the text behind the LF. The line is handed on as a part of the text, a form that document 01
+// names for the line cutter, though the readers need its numbers alone.
 #[derive(Clone, Copy)]
 pub struct Found<'a> {
     pub line: &'a [u8],

@@ -115,6 +115,7 @@ impl Sink for Page<'_> {
         self.at += n;
     }
 
+    // The line writer gets the rest of the buffer from the cursor on, the form that document 01 names for it.
     fn line(&mut self, form: &[u8], values: &[u64]) {
         let written = write_line(&mut self.out[self.at..], form, values);
         self.at += written;
