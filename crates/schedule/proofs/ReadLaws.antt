@@ -2,7 +2,7 @@
 use Prim.Native.Nat.{ℕ, ◌≤◌, ◌<◌}
 use mathlib.Core.Path.{◌≡◌, refl, subst}
 use mathlib.Core.List.{List}
-use Rattle.std.specs.Prelude.{Result, Ok, Err}
+use Rattle.std.specs.Prelude.{Result, Ok, Err, IfOk}
 use borrow.Author.Tests.{le-leb, lt-leb}
 use lib.ListN.{length}
 use Rattle.rules.specs.Limits.{max_text}
@@ -19,8 +19,10 @@ use Rattle.rules.specs.Refusals.{as_fault}
 use Rattle.model.specs.declared.claim.Claim as Code
 use Rattle.model.specs.Claims.{as_claim}
 use Rattle.model.specs.declared.job.Job.{Job}
-use Rattle.model.specs.Layout.{Entries}
-use Rattle.model.specs.Jobs.{instance_in, schedule_by}
+use Rattle.model.specs.declared.layout.Schedule.{Schedule as StoredSchedule}
+use Rattle.model.specs.Layout.{Entries, entries_of}
+use Rattle.model.specs.Jobs.{instance_in, schedule_by, schedule_of, ScheduleInBounds, AllPlaced}
+use Rattle.model.proofs.SpelledLaws.{spelled-placed, spelled-bounds}
 use Rattle.schedule.specs.Reading.{IsRead, nothing}
 
 module _ (I : Instance) (bs : List ℕ) where
@@ -63,3 +65,10 @@ module _ (I : Instance) (bs : List ℕ) (P : Schedule) (r : Result Code.Claim Re
 
   pub was-refused : {e : Refusal} → r ≡ Err e → OfTimetable I bs e
   was-refused {e} p = of_timetable I bs P e (subst (λ (x : Result Code.Claim Refusal). IsRead P x (read_schedule I bs)) p q)
+
+-- what was read is in its bounds, and every task is placed
+pub read-complete : (j : Job) (bs : List ℕ) (xs : StoredSchedule) (r : Result Code.Claim Refusal) → IsRead (schedule_of j xs) r (read_schedule (instance_in j) bs)
+    → IfOk r (λ _. ScheduleInBounds j xs × AllPlaced j xs)
+read-complete j bs xs (Ok c) q =
+    let s = read-spellable j (entries_of xs) (as_claim c) bs q in (spelled-bounds j xs (as_claim c) s, spelled-placed j xs (as_claim c) s)
+read-complete j bs xs (Err e) q = tt

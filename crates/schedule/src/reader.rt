@@ -8,7 +8,7 @@ ghost use Rattle.text.specs.Due.{TakesDue};
 ghost use Rattle.model.specs.Claims.{as_claim};
 ghost use Rattle.model.specs.Jobs.{instance_in};
 ghost use Rattle.model.specs.Layout.{entries_of};
-ghost use Rattle.model.specs.Jobs.{schedule_of};
+ghost use Rattle.model.specs.Jobs.{schedule_of, ScheduleInBounds, AllPlaced};
 ghost use Rattle.schedule.specs.Reading.{as_run, GoesOn, IsRead, nothing, runs_of};
 
 use crate::lines::{Line, next_line};
@@ -145,9 +145,10 @@ fn read_claim(job: &Job<'_>, paper: &[u8], line: u64) -> Result<Claim, Refusal>
     Err(Refusal::Timetable(fault, line + 1))
 }
 
-// Reads a timetable into the schedule.
+// Reads a timetable into the schedule. One that is read has every task placed, and every number in its range.
 pub fn read(job: &Job<'_>, paper: &[u8], schedule: &mut Schedule) -> Result<Claim, Refusal>
-    ensures { IsRead (schedule_of job.now schedule.new) result (read_schedule (instance_in job.now) paper.now) }
+    ensures complete { IfOk result (λ _. ScheduleInBounds job.now schedule.new × AllPlaced job.now schedule.new) }
+    ensures is_read { IsRead (schedule_of job.now schedule.new) result (read_schedule (instance_in job.now) paper.now) }
 {
     if Board::MAX_TEXT < paper.len() {
         return Err(Refusal::Timetable(Fault::TooLong, 0));
