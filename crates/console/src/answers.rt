@@ -38,25 +38,27 @@ pub fn print_marks(rt: &impl Print, sheet: &[u8], paper: &[u8]) -> IoResult<()> 
     println!(rt)
 }
 
-fn name_of(planner: Planner) -> &'static str {
+// What is shown, a planner's label, and number, place and trials of its answer.
+pub fn print_numbers(rt: &impl Print, name: &[u8], planner: &[u8], answer: Answer) -> IoResult<()> {
+    rt.write_all(name)?;
+    rt.write_all(planner)?;
+    let [number, place] = numbers_of(answer.written);
+    println!(rt; " {number} {place} {}", answer.trials)
+}
+
+// A planner's name, as it stands between what is shown and the numbers.
+fn name_of(planner: Planner) -> &'static [u8] {
     match planner {
-        Planner::MemHeft => "MemHEFT",
-        Planner::MemMinMin => "MemMinMin",
-        Planner::Heft => "HEFT",
-        Planner::MinMin => "MINMIN",
+        Planner::MemHeft => b", MemHEFT:",
+        Planner::MemMinMin => b", MemMinMin:",
+        Planner::Heft => b", HEFT:",
+        Planner::MinMin => b", MINMIN:",
     }
 }
 
-// What is shown, the planner, and number, place and trials of its answer.
-pub fn print_numbers(
-    rt: &impl Print,
-    what: &str,
-    planner: Planner,
-    answer: Answer,
-) -> IoResult<()> {
-    let [number, place] = numbers_of(answer.written);
-    let name = name_of(planner);
-    println!(rt; "{what}, {name}: {number} {place} {}", answer.trials)
+// The same, with the planner's name.
+pub fn show_numbers(rt: &impl Print, what: &str, planner: Planner, answer: Answer) -> IoResult<()> {
+    print_numbers(rt, what.as_bytes(), name_of(planner), answer)
 }
 
 // The text that a call wrote at the front of a buffer; none after a refusal.
@@ -108,7 +110,7 @@ pub fn show_marks(rt: &impl Print, what: &str, sheet: &[u8], paper: &[u8]) -> Io
 pub fn show_plan(rt: &impl Print, what: &str, planner: Planner, sheet: &[u8]) -> IoResult<()> {
     let mut out = large_buffer();
     let answer = plan(planner, sheet, &mut out);
-    print_numbers(rt, what, planner, answer)?;
+    show_numbers(rt, what, planner, answer)?;
     print_text(rt, answer.written, &out)?;
     print_text_mark(rt, sheet, answer.written, &out)
 }

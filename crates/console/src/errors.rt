@@ -3,15 +3,18 @@ use crate::escape::write_escaped;
 use std::io::{Cursor, Error, Result, Write};
 
 // `PROGRAM: WHAT: REASON`. What failed may be a file, whose name need not be UTF-8.
-pub fn report(err: &impl Print, program: &str, what: &[u8], error: Error) {
-    if print!(err; "{program}: ").is_ok() && write_escaped(err, what).is_ok() {
+pub fn report(err: &impl Print, program: &[u8], what: &[u8], error: Error) {
+    if err.write_all(program).is_ok()
+        && print!(err; ": ").is_ok()
+        && write_escaped(err, what).is_ok()
+    {
         fail(err, error);
     }
 }
 
 // `PROGRAM: argument I: REASON`.
-pub fn report_argument(err: &impl Print, program: &str, i: usize, error: Error) {
-    if print!(err; "{program}: argument {i}").is_ok() {
+pub fn report_argument(err: &impl Print, program: &[u8], i: usize, error: Error) {
+    if err.write_all(program).is_ok() && print!(err; ": argument {i}").is_ok() {
         fail(err, error);
     }
 }

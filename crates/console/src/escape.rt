@@ -2,23 +2,28 @@
 // quotes too, and spell a tab and a line's end by letters.
 ghost use Rattle.std.specs.Prelude.{◌≡◌, true, ◌∷◌, ℕ, ◌*◌, ◌≤◌, ◌<◌, length, get_or};
 ghost use Rattle.io.specs.Counts.{IsPrefixLen};
-ghost use Rattle.io.specs.Digits.{last_digits};
+ghost use Rattle.io.specs.Digits.{hex_digit_ascii, last_digits};
 ghost use Rattle.text.specs.Wrote.{Wrote};
 ghost use Rattle.console.specs.Escaped.{printable, escaped_byte, escaped};
 
 use std::io::Result;
+
+fn hex_digit(d: u8) -> u8
+    requires { d < 16 }
+    ensures { result ≡ hex_digit_ascii d }
+{
+    if d < 10 { 48 + d } else { 87 + d }
+}
 
 // Writes `\xNN` at the front of `out`.
 fn escape_hex(b: u8, out: &mut [u8]) -> usize
     requires { 4 ≤ length out.old }
     ensures { Wrote (92 ∷ 120 ∷ last_digits 16 2 b) result out.old out.new }
 {
-    let mut digits = [0u8; 16];
-    io::hex(b as u64, 2, &mut digits);
     out[0] = b'\\';
     out[1] = b'x';
-    out[2] = digits[0];
-    out[3] = digits[1];
+    out[2] = hex_digit(b / 16 % 16);
+    out[3] = hex_digit(b % 16);
     4
 }
 

@@ -29,7 +29,7 @@ fn read_all(from: &mut impl Read, buf: &mut [u8]) -> Result<usize>
 // The text of an open file that messages call `name`. Reports a failure.
 pub fn read_descriptor(
     err: &impl Print,
-    program: &str,
+    program: &[u8],
     name: &[u8],
     from: &mut impl Read,
     buf: &mut [u8],
@@ -55,7 +55,7 @@ fn open<R: Files>(rt: &R, name: &[u8]) -> Result<R::File> {
 pub fn read_file(
     rt: &impl Files,
     err: &impl Print,
-    program: &str,
+    program: &[u8],
     name: &[u8],
     buf: &mut [u8],
 ) -> Result<usize>
@@ -89,7 +89,7 @@ const NAME_TOO_LONG: i32 = 36;
 pub fn read_argument(
     rt: &impl Env,
     err: &impl Print,
-    program: &str,
+    program: &[u8],
     i: usize,
     buf: &mut [u8],
 ) -> Result<usize>
@@ -108,7 +108,7 @@ pub fn read_argument(
 pub fn read_named(
     rt: &(impl Env + Files),
     err: &impl Print,
-    program: &str,
+    program: &[u8],
     i: usize,
     buf: &mut [u8],
 ) -> Result<usize>

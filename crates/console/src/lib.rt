@@ -10,7 +10,7 @@ mod planners;
 
 pub use answers::{
     print_marks, print_number, print_numbers, print_text, print_text_mark, print_verdict,
-    show_marks, show_plan, show_verdict, written_text,
+    show_marks, show_numbers, show_plan, show_verdict, written_text,
 };
 pub use converter::{convert, strip};
 pub use errors::report;

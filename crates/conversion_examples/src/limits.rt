@@ -44,7 +44,7 @@ fn show_stripped(rt: &impl Print, sheet: &[u8]) -> Result<()> {
 // Both on the sheet of a file.
 fn show(rt: &(impl Files + Print), err: &impl Print, name: &str, lines: [u64; 4]) -> Result<()> {
     let mut text = io::large_buffer();
-    let Ok(n) = read_file(rt, err, "conversion_examples", name.as_bytes(), &mut text) else {
+    let Ok(n) = read_file(rt, err, b"conversion_examples", name.as_bytes(), &mut text) else {
         return Ok(());
     };
     let sheet = &text[..n];

@@ -1,7 +1,7 @@
 // Planners on converted sheets: each plan is marked on the converted sheet, stripped, and what is left is marked for the original.
 use crate::show::stripped;
 use console::{
-    Planner, convert, plan, print_numbers, print_text, print_text_mark, show_plan, written_text,
+    Planner, convert, plan, print_text, print_text_mark, show_numbers, show_plan, written_text,
 };
 use std::io::Result;
 
@@ -9,7 +9,7 @@ use std::io::Result;
 fn show_planner(rt: &impl Print, planner: Planner, sheet: &[u8], wide: &[u8]) -> Result<()> {
     let mut out = io::large_buffer();
     let answer = plan(planner, wide, &mut out);
-    print_numbers(rt, "converted", planner, answer)?;
+    show_numbers(rt, "converted", planner, answer)?;
     print_text(rt, answer.written, &out)?;
     print_text_mark(rt, wide, answer.written, &out)?;
     if answer.written.is_ok() {

@@ -21,7 +21,7 @@ fn main(rt: HostRuntime) {
     let mut sheet = io::large_buffer();
     let Ok(n) = read_descriptor(
         &err,
-        "frameconvert",
+        b"frameconvert",
         b"standard input",
         &mut rt.stdin(),
         &mut sheet,
@@ -29,6 +29,6 @@ fn main(rt: HostRuntime) {
         return;
     };
     if let Err(e) = print_converted(&rt, &sheet[..n]) {
-        report(&err, "frameconvert", b"standard output", e);
+        report(&err, b"frameconvert", b"standard output", e);
     }
 }

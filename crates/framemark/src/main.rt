@@ -25,12 +25,12 @@ fn mark_argument(
     several: bool,
 ) -> Result<()> {
     let mut path = io::buffer();
-    let Ok(n) = read_argument(rt, err, "framemark", i, &mut path) else {
+    let Ok(n) = read_argument(rt, err, b"framemark", i, &mut path) else {
         return Ok(());
     };
     let name = &path[..n];
     let mut text = io::large_buffer();
-    let Ok(m) = read_file(rt, err, "framemark", name, &mut text) else {
+    let Ok(m) = read_file(rt, err, b"framemark", name, &mut text) else {
         return Ok(());
     };
     let paper = &text[..m];
@@ -44,7 +44,7 @@ fn mark_argument(
 fn mark_arguments(rt: &(impl Env + Files + Print), err: &impl Print, sheet: &[u8], count: usize) {
     for i in 2..count {
         if let Err(e) = mark_argument(rt, err, sheet, i, 3 < count) {
-            report(err, "framemark", b"standard output", e);
+            report(err, b"framemark", b"standard output", e);
             return;
         }
     }
@@ -58,7 +58,7 @@ fn main(rt: HostRuntime) {
         return;
     }
     let mut text = io::large_buffer();
-    let Ok(n) = read_named(&rt, &err, "framemark", 1, &mut text) else {
+    let Ok(n) = read_named(&rt, &err, b"framemark", 1, &mut text) else {
         return;
     };
     mark_arguments(&rt, &err, &text[..n], count);

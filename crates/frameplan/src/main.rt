@@ -47,7 +47,7 @@ fn main(rt: HostRuntime) {
     let mut sheet = io::large_buffer();
     let Ok(n) = read_descriptor(
         &err,
-        "frameplan",
+        b"frameplan",
         b"standard input",
         &mut rt.stdin(),
         &mut sheet,
@@ -55,6 +55,6 @@ fn main(rt: HostRuntime) {
         return;
     };
     if let Err(e) = print_plan(&rt, planner, &sheet[..n]) {
-        report(&err, "frameplan", b"standard output", e);
+        report(&err, b"frameplan", b"standard output", e);
     }
 }

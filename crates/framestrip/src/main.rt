@@ -16,11 +16,11 @@ fn print_stripped(rt: &impl Print, sheet: &[u8], paper: &[u8]) -> Result<()> {
 // Strips the timetable of argument 2. The buffers for texts are longer than a text may be, so a file that fills one is refused as too long.
 fn strip_argument(rt: &(impl Env + Files + Print), err: &impl Print, sheet: &[u8]) {
     let mut text = io::large_buffer();
-    let Ok(n) = read_named(rt, err, "framestrip", 2, &mut text) else {
+    let Ok(n) = read_named(rt, err, b"framestrip", 2, &mut text) else {
         return;
     };
     if let Err(e) = print_stripped(rt, sheet, &text[..n]) {
-        report(err, "framestrip", b"standard output", e);
+        report(err, b"framestrip", b"standard output", e);
     }
 }
 
@@ -31,7 +31,7 @@ fn main(rt: HostRuntime) {
         return;
     }
     let mut text = io::large_buffer();
-    let Ok(n) = read_named(&rt, &err, "framestrip", 1, &mut text) else {
+    let Ok(n) = read_named(&rt, &err, b"framestrip", 1, &mut text) else {
         return;
     };
     strip_argument(&rt, &err, &text[..n]);

@@ -1,4 +1,3 @@
 -- What the contracts of this program cite.
 pub mod Columns
 pub mod Decimal
-pub mod Lines

@@ -1,98 +1,88 @@
 // A line for standard output, put together piece by piece, of at most `WIDTH` columns.
-ghost use Rattle.std.specs.Prelude.{◌≡◌, ◌+◌, ◌*◌, ◌≤◌, max, length};
+ghost use Rattle.std.specs.Prelude.{◌≡◌, ◌+◌, ◌*◌, ◌≤◌, min, max, length};
 ghost use Rattle.rules.specs.Text.{decimal};
 ghost use Rattle.framewatch.specs.Columns.{width, most_digits};
-ghost use Rattle.framewatch.specs.Lines.{used};
 
-use arrayvec::ArrayVec;
 use std::io::Result;
 
 pub const WIDTH: usize = 80;
 
-// The columns so far; and whether all lines before this one were written, or why one was not.
-#[derive(Drop)]
+// The columns used so far, spaces behind them, and room for LF behind the last; and whether all lines before this one were written, or why
+// one was not.
+#[derive(Clone, Copy)]
 pub struct Line {
-    pub bytes: ArrayVec<u8, WIDTH>,
+    pub bytes: [u8; WIDTH + 1],
+    pub used: usize,
     pub ok: Result<()>,
+    ghost fits: { used ≤ width },
 }
 
 impl Line {
     pub fn new() -> Line
-        ensures { used result ≡ 0 }
+        ensures { result.used ≡ 0 }
     {
         Line {
-            bytes: ArrayVec::new(),
+            bytes: [b' '; WIDTH + 1],
+            used: 0,
             ok: Ok(()),
         }
     }
 
-    // How many columns are used.
-    pub fn used(&self) -> usize
-        ensures { result ≡ used self.now }
-    {
-        self.bytes.len()
-    }
-
-    // With bytes behind it, for which it has room.
-    fn bytes(mut self, bytes: &[u8]) -> Line
-        requires { used self + length bytes.now ≤ width }
-        ensures { used result ≡ used self + length bytes.now }
-    {
-        let _ = self.bytes.try_extend_from_slice(bytes);
-        self
-    }
-
     // With a text behind it.
-    pub fn text(self, text: &str) -> Line
-        requires { used self + length text.now ≤ width }
-        ensures { used result ≡ used self + length text.now }
+    pub fn text(mut self, text: &[u8]) -> Line
+        requires { self.used + length text.now ≤ width }
+        ensures { result.used ≡ self.used + length text.now }
     {
-        self.bytes(text.as_bytes())
+        let start = self.used;
+        let end = start + text.len();
+        self.bytes[start..end].copy_from_slice(text);
+        self.used = end;
+        self
     }
 
     // With a number behind it.
     pub fn number(self, n: u64) -> Line
-        requires { used self + most_digits ≤ width }
-        ensures used_value { used result ≡ used self + length (decimal n) }
+        requires { self.used + most_digits ≤ width }
+        ensures used_value { result.used ≡ self.used + length (decimal n) }
         ensures n_len_bound { length (decimal n) ≤ most_digits }
     {
         let mut digits = [0u8; 20];
         let k = text::write_number(&mut digits, n);
-        self.bytes(&digits[..k])
+        self.text(&digits[..k])
     }
 
-    // With spaces behind it, up to a column.
-    fn to_column(mut self, column: usize) -> Line
-        requires { column ≤ width }
-        ensures { used result ≡ max (used self) column }
+    // With spaces behind it, up to a column, or up to the last one where the column is past that.
+    pub fn to_column(mut self, column: usize) -> Line
+        ensures { result.used ≡ max self.used (min column width) }
     {
-        for _ in self.bytes.len()..column {
-            self.bytes.push(b' ');
-        }
+        self.used = self.used.max(column.min(WIDTH));
         self
     }
 
     // With a number behind it, in so many columns: spaces stand before the digits.
     pub fn right(self, n: u64, columns: usize) -> Line
-        requires { (used self + 2 * most_digits ≤ width) × (columns ≤ most_digits) }
-        ensures used_value { used result ≡ used self + max columns (length (decimal n)) }
+        requires { (self.used + 2 * most_digits ≤ width) × (columns ≤ most_digits) }
+        ensures used_value { result.used ≡ self.used + max columns (length (decimal n)) }
         ensures n_len_bound { length (decimal n) ≤ most_digits }
     {
         let k = text::number_size(n);
         if columns <= k {
             return self.number(n);
         }
-        let column = self.used() + (columns - k);
+        let column = self.used + (columns - k);
         self.to_column(column).number(n)
     }
 
-    // Writes the line, if all before it were written; the next one is empty.
+    // Writes the line and its end by one write, if all before it were written; the next one is empty.
     pub fn end(self, rt: &impl Print) -> Line
-        ensures { used result ≡ 0 }
+        ensures { result.used ≡ 0 }
     {
+        let n = self.used;
+        let mut bytes = self.bytes;
+        bytes[n] = b'\n';
         let mut next = Line::new();
         next.ok = match self.ok {
-            Ok(()) => write_line(rt, &self.bytes),
+            Ok(()) => rt.write_all(&bytes[..n + 1]),
             Err(e) => Err(e),
         };
         next
@@ -101,20 +91,14 @@ impl Line {
     // With an item of a list at a column, or, where the line is past it or the item does not fit there, on a line of its own from
     // column `hang` on.
     pub fn item(self, rt: &impl Print, item: Line, column: usize, hang: usize) -> Line
-        requires { hang + used item ≤ width }
+        requires { hang + item.used ≤ width }
     {
-        let n = item.used();
-        if self.used() <= column {
+        let n = item.used;
+        if self.used <= column {
             if column <= WIDTH - n {
-                return self.to_column(column).bytes(&item.bytes);
+                return self.to_column(column).text(&item.bytes[..n]);
             }
         }
-        self.end(rt).to_column(hang).bytes(&item.bytes)
+        self.end(rt).to_column(hang).text(&item.bytes[..n])
     }
-}
-
-// A line and its end.
-fn write_line(rt: &impl Print, line: &[u8]) -> Result<()> {
-    rt.write_all(line)?;
-    rt.write_all(b"\n")
 }

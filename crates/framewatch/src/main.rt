@@ -46,11 +46,11 @@ fn print_no_number(err: &impl Print, name: &str) -> Result<()> {
 // may be, so a file that fills one is refused as too long.
 fn watch(rt: &(impl Env + Files + Print), err: &impl Print, sheet: &[u8], made: u64, steps: u64) {
     let mut text = io::large_buffer();
-    let Ok(n) = read_named(rt, err, "framewatch", 2, &mut text) else {
+    let Ok(n) = read_named(rt, err, b"framewatch", 2, &mut text) else {
         return;
     };
     if let Err(e) = trace::show(rt, sheet, &text[..n], made, steps) {
-        report(err, "framewatch", b"standard output", e);
+        report(err, b"framewatch", b"standard output", e);
     }
 }
 
@@ -69,7 +69,7 @@ fn main(rt: HostRuntime) {
         return;
     };
     let mut text = io::large_buffer();
-    let Ok(n) = read_named(&rt, &err, "framewatch", 1, &mut text) else {
+    let Ok(n) = read_named(&rt, &err, b"framewatch", 1, &mut text) else {
         return;
     };
     watch(&rt, &err, &text[..n], made, steps);

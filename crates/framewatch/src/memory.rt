@@ -8,7 +8,6 @@ ghost use Rattle.model.specs.Colours.{as_colour};
 ghost use Rattle.model.specs.Jobs.{instance_in};
 ghost use Rattle.model.specs.Layout.{most_files};
 ghost use Rattle.framewatch.specs.Columns.{width, row_column, limit_columns, file_columns};
-ghost use Rattle.framewatch.specs.Lines.{used};
 
 use crate::line::Line;
 use model::colour::{Colour, by_colour};
@@ -40,16 +39,16 @@ fn total(job: &Job, contents: &[u64; Board::MAX_FILES], colour: Colour) -> u64
 // A file: maker, reader and size, and whether it is being moved.
 fn file(maker: u64, reader: u64, size: u64, moving: bool) -> Line
     requires { (maker ≤ max_tasks) × (reader ≤ max_tasks) × (size ≤ file_sizes.most) }
-    ensures { used result ≤ file_columns }
+    ensures { result.used ≤ file_columns }
 {
     let line = Line::new()
-        .text("(")
+        .text(b"(")
         .number(maker)
-        .text(" ")
+        .text(b" ")
         .number(reader)
-        .text(") ")
+        .text(b") ")
         .number(size);
-    if moving { line.text(" moving") } else { line }
+    if moving { line.text(b" moving") } else { line }
 }
 
 // The line with file k behind it, if the memory of the colour holds it. What both memories hold is being moved, and in a step that was
@@ -70,7 +69,7 @@ fn with_file(
         let maker = job.maker(k) as u64 + 1;
         let reader = job.reader(k) as u64 + 1;
         let shown = file(maker, reader, job.size(k), held == 3);
-        let column = line.used() + 3;
+        let column = line.used + 3;
         return line.item(rt, shown, column, hang);
     }
     line
@@ -109,12 +108,15 @@ pub fn show(
     contents: &[u64; Board::MAX_FILES],
     colour: Colour,
 ) -> Line
-    requires { used line ≤ row_column }
+    requires { line.used ≤ row_column }
 {
     let columns = limit_columns(job);
     let held = total(job, contents, colour);
     let limit = by_colour(colour, job.board.blue.limit, job.board.red.limit);
-    let row = line.right(held, columns).text(" of ").right(limit, columns);
-    let hang = row.used() + 3;
+    let row = line
+        .right(held, columns)
+        .text(b" of ")
+        .right(limit, columns);
+    let hang = row.used + 3;
     files(rt, row, job, contents, colour, hang)
 }

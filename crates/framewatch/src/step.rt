@@ -2,7 +2,6 @@
 ghost use Rattle.std.specs.Prelude.{◌≡◌, ◌+◌, ◌*◌, ◌≤◌};
 ghost use Rattle.rules.specs.Limits.{all_processors};
 ghost use Rattle.framewatch.specs.Columns.{most_digits, row_column};
-ghost use Rattle.framewatch.specs.Lines.{used};
 
 use crate::line::Line;
 use crate::memory;
@@ -18,13 +17,13 @@ const CELL: usize = 15;
 
 // A processor and its task, 0 for none.
 fn processor(p: u64, task: u64) -> Line
-    ensures { used result ≤ 2 * most_digits + 7 }
+    ensures { result.used ≤ 2 * most_digits + 7 }
 {
     let line = Line::new().number(p);
     if task == 0 {
-        return line.text(": idle");
+        return line.text(b": idle");
     }
-    line.text(": task ").number(task)
+    line.text(b": task ").number(task)
 }
 
 // What `count` processors run, those behind the first `before`: four to a line.
@@ -47,19 +46,19 @@ fn processors(
 
 // The colour's name, before its processors.
 fn label(line: Line, colour: Colour) -> Line
-    requires { used line ≡ 0 }
-    ensures { used result ≡ row_column }
+    requires { line.used ≡ 0 }
+    ensures { result.used ≡ row_column }
 {
     match colour {
-        Colour::Blue => line.text("  blue  processor  "),
-        Colour::Red => line.text("  red   processor  "),
+        Colour::Blue => line.text(b"  blue  processor  "),
+        Colour::Red => line.text(b"  red   processor  "),
     }
 }
 
 // One colour: what its processors run and what its memory holds.
 fn side(rt: &impl Print, line: Line, job: &Job, state: Simulation, colour: Colour) -> Line
-    requires { used line ≡ 0 }
-    ensures { used result ≡ 0 }
+    requires { line.used ≡ 0 }
+    ensures { result.used ≡ 0 }
 {
     let running = state.running;
     let contents = state.contents;
@@ -67,19 +66,19 @@ fn side(rt: &impl Print, line: Line, job: &Job, state: Simulation, colour: Colou
     let before = by_colour(colour, 0, blue) as usize;
     let count = by_colour(colour, blue, job.board.red.processors) as usize;
     let runs = processors(rt, label(line, colour), &running, before, count).end(rt);
-    let row = runs.text("        memory     ");
+    let row = runs.text(b"        memory     ");
     memory::show(rt, row, job, &contents, colour).end(rt)
 }
 
 // A step: its number and tick, and what each colour does.
 pub fn show(rt: &impl Print, line: Line, job: &Job, state: Simulation) -> Line
-    requires { used line ≡ 0 }
-    ensures { used result ≡ 0 }
+    requires { line.used ≡ 0 }
+    ensures { result.used ≡ 0 }
 {
     let head = line
-        .text("step ")
+        .text(b"step ")
         .number(state.made)
-        .text(", tick ")
+        .text(b", tick ")
         .number(state.time)
         .end(rt);
     let blue = side(rt, head, job, state, Colour::Blue);

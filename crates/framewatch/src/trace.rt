@@ -3,7 +3,6 @@ ghost use Rattle.std.specs.Prelude.{◌≡◌, ◌≤◌, ltb, length};
 ghost use Rattle.rules.specs.Count.{any_below};
 ghost use Rattle.rules.specs.Model.{work_at};
 ghost use Rattle.model.specs.Jobs.{instance_in};
-ghost use Rattle.framewatch.specs.Lines.{used};
 
 use crate::line::Line;
 use crate::step;
@@ -16,11 +15,11 @@ use std::io::Result;
 // The counts of the job, and how memory and files are shown. Fails where it cannot be written.
 fn print_heading(rt: &impl Print, job: &Job) -> Result<()> {
     Line::new()
-        .text("tasks: ")
+        .text(b"tasks: ")
         .number(job.tasks.len() as u64)
-        .text(", files: ")
+        .text(b", files: ")
         .number(job.files.len() as u64)
-        .text("; memory in blocks, each file as (maker reader) size")
+        .text(b"; memory in blocks, each file as (maker reader) size")
         .end(rt)
         .ok
 }
@@ -36,7 +35,7 @@ fn has_work(job: &Job) -> bool
 fn print_note(rt: &impl Print, job: &Job) -> Result<()> {
     if has_work(job) {
         return Line::new()
-            .text("working memory is not shown, but it counts for the limits")
+            .text(b"working memory is not shown, but it counts for the limits")
             .end(rt)
             .ok;
     }
@@ -45,13 +44,13 @@ fn print_note(rt: &impl Print, job: &Job) -> Result<()> {
 
 // Why a fault stops it.
 fn reason(fault: TickFault) -> Line
-    ensures { used result ≤ 52 }
+    ensures { result.used ≤ 52 }
 {
     let line = Line::new();
     match fault {
-        TickFault::Overlap => line.text(" by 15: two runs on one processor share an instant"),
-        TickFault::Early => line.text(" by 16: a file moves or is read before it is there"),
-        TickFault::OverLimit => line.text(" by 17: a memory would hold more than its limit"),
+        TickFault::Overlap => line.text(b" by 15: two runs on one processor share an instant"),
+        TickFault::Early => line.text(b" by 16: a file moves or is read before it is there"),
+        TickFault::OverLimit => line.text(b" by 17: a memory would hold more than its limit"),
     }
 }
 
@@ -60,17 +59,17 @@ fn print_end(rt: &impl Print, progress: Progress, made: u64) -> Result<()> {
     let line = Line::new().end(rt);
     match progress {
         Progress::StepsLeft => line
-            .text("steps made: ")
+            .text(b"steps made: ")
             .number(made)
-            .text("; more are left")
+            .text(b"; more are left")
             .end(rt)
             .ok,
         Progress::Stopped { fault, tick } => {
-            let stop = line.text("stopped at tick ").number(tick);
-            let column = stop.used();
+            let stop = line.text(b"stopped at tick ").number(tick);
+            let column = stop.used;
             stop.item(rt, reason(fault), column, 2).end(rt).ok
         }
-        Progress::Ended { span } => line.text("ended: the span is ").number(span).end(rt).ok,
+        Progress::Ended { span } => line.text(b"ended: the span is ").number(span).end(rt).ok,
     }
 }
 

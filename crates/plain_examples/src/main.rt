@@ -2,7 +2,7 @@
 // the marker says to it on the same sheet.
 #![tactic(auto)]
 
-use console::{Planner, print_numbers, read_file, show_plan};
+use console::{Planner, read_file, show_numbers, show_plan};
 use std::io::Result;
 use std::rt::Files;
 
@@ -17,7 +17,7 @@ fn show_planners(rt: &impl Print, name: &str, sheet: &[u8]) -> Result<()> {
 // The planners on the sheet of a file.
 fn show(rt: &(impl Files + Print), err: &impl Print, name: &str) -> Result<()> {
     let mut sheet = io::large_buffer();
-    let Ok(n) = read_file(rt, err, "plain_examples", name.as_bytes(), &mut sheet) else {
+    let Ok(n) = read_file(rt, err, b"plain_examples", name.as_bytes(), &mut sheet) else {
         return Ok(());
     };
     show_planners(rt, name, &sheet[..n])
@@ -29,7 +29,7 @@ fn show_short(rt: &impl Print) -> Result<()> {
         b"(board (blue 1 6) (red 1 6))\n(task 1 4 2)\n(task 2 3 5)\n(task 3 2 6)\n(file 1 2 2 1)\n(file 1 3 3 2)\n";
     let mut out = [b'.'; 75];
     let answer = frames::plan(Planner::Heft, sheet, &mut out);
-    print_numbers(rt, "75 bytes", Planner::Heft, answer)?;
+    show_numbers(rt, "75 bytes", Planner::Heft, answer)?;
     rt.write_all(&out)?;
     println!(rt)
 }

@@ -1,21 +1,21 @@
 // Both memory-aware planners on the sheets of data/, those with relays last, and a buffer one byte too short.
 #![tactic(auto)]
 
-use console::{Planner, plan, print_numbers, print_text, read_file};
+use console::{Planner, plan, print_text, read_file, show_numbers};
 use std::io::Result;
 use std::rt::Files;
 
 fn show_plan(rt: &impl Print, name: &str, planner: Planner, sheet: &[u8]) -> Result<()> {
     let mut out = io::large_buffer();
     let answer = plan(planner, sheet, &mut out);
-    print_numbers(rt, name, planner, answer)?;
+    show_numbers(rt, name, planner, answer)?;
     print_text(rt, answer.written, &out)
 }
 
 // Both memory-aware planners on the sheet of a file.
 fn show(rt: &(impl Files + Print), err: &impl Print, name: &str) -> Result<()> {
     let mut sheet = io::large_buffer();
-    let Ok(n) = read_file(rt, err, "planner_examples", name.as_bytes(), &mut sheet) else {
+    let Ok(n) = read_file(rt, err, b"planner_examples", name.as_bytes(), &mut sheet) else {
         return Ok(());
     };
     show_plan(rt, name, Planner::MemHeft, &sheet[..n])?;
@@ -28,7 +28,7 @@ fn show_short(rt: &impl Print) -> Result<()> {
         b"(board (blue 1 6) (red 1 6))\n(task 1 4 2)\n(task 2 3 5)\n(task 3 2 6)\n(file 1 2 2 1)\n(file 1 3 3 2)\n";
     let mut out = [b'.'; 75];
     let answer = frames::plan(Planner::MemHeft, sheet, &mut out);
-    print_numbers(rt, "75 bytes", Planner::MemHeft, answer)?;
+    show_numbers(rt, "75 bytes", Planner::MemHeft, answer)?;
     rt.write_all(&out)?;
     println!(rt)
 }

@@ -1,5 +1,6 @@
 -- `number_of` meets its contract: digits are ASCII, and so a text that can be parsed.
-use Rattle.std.proofs.Common.{sym, ◌∙◌}
+use Rattle.std.proofs.Common.{arith, sym, ◌∙◌}
+use Rattle.std.proofs.lemmas.Grind.{common_steps}
 use Rattle.std.proofs.lemmas.Str.{IsUtf8-from_ascii}
 use Rattle.framewatch.proofs.DecimalLaws.{digits-ascii, number-none, number-is}
 use Rattle.framewatch.proofs.number.number_of.Goals as goal
@@ -13,5 +14,5 @@ returns-in-Err c =
 
 pub returns-in-Ok : goal.returns-in-Ok
 returns-in-Ok c =
-    c.ok.ensures.value
-    ∙ number-is c.args.text.now (sym c.all_digits.ensures ∙ c.if-not-all_digits.false) c.parse.result (rw c.in-Ok.ensures.cases.0 at c.parse.ensures.value.0)
+    let e = number-is c.args.text.now (sym c.all_digits.ensures ∙ c.if-not-all_digits.false) c.parse.result (rw c.in-Ok.ensures.cases.0 at c.parse.ensures.value.0) in
+    grind (arith, common_steps)
