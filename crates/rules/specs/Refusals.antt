@@ -1,5 +1,6 @@
 -- What the source's `Fault` and `Refusal` say in the words of the rules: the number and the place of each case, document 01's, and 41 and 42 of Order 7.
-use Rattle.std.specs.Prelude.{ℕ}
+use Rattle.std.specs.Prelude.{ℕ, List, ◌++◌, codes}
+use Rattle.std.specs.Fmt.{decimal}
 use Rattle.rules.specs.Text as Text
 use Rattle.rules.specs.declared.refusal.Fault.{Fault}
 use Rattle.rules.specs.declared.refusal.Fault.TheVariants.{TooLong, Malformed, OutOfRange, Undue}
@@ -35,3 +36,7 @@ refusal_place (Stuck k) = k
 refusal_place (Short k) = k
 refusal_place TooManyTasks = 0
 refusal_place TooManyFiles = 0
+
+-- what the programs print of it: its number and its place in decimal
+abbrev pub refusal_text : Refusal → List ℕ
+refusal_text r = codes "(refused " ++ decimal (refusal_number r) ++ codes " " ++ decimal (refusal_place r) ++ codes ")"

@@ -93,8 +93,13 @@ impl Refusal {
     }
 }
 
-// `(refused N K)`, as the programs print it.
+// `(refused N K)`, as the programs print it: its number, and its place.
 impl fmt::Display for Refusal {
+    ghost use Rattle.std.specs.Prelude.{Some};
+    ghost use Rattle.rules.specs.Refusals.{refusal_text};
+
+    ghost output = { λ r. Some (refusal_text r) };
+
     fn fmt<W: fmt::Write>(&self, f: &mut fmt::Formatter<W>) -> fmt::Result {
         write!(f, "(refused {} {})", self.number(), self.place())
     }

@@ -116,7 +116,8 @@ fn read_moves<'a>(
     let mut rest = paper;
     let mut next = line;
     for k in 0..job.files.len() {
-        if job.moves(schedule, k) {
+        let moves = job.moves(schedule, k);
+        if moves {
             let maker = job.maker(k) as u64 + 1;
             let reader = job.reader(k) as u64 + 1;
             let due = due_move(job, rest, maker, reader).map_err(|fault| Refusal::Timetable(

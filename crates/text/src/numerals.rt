@@ -19,11 +19,13 @@ fn spelled(text: &[u8], value: u64, size: usize) -> Option<Numeral>
     requires { Summed text.now value size }
     ensures { MatchOption result (numeral (digits_of text.now) ≡ false) (λ r. Spelled text.now r.value r.size) }
 {
-    if size == 0 || 1 < size && text[0] == b'0' {
-        None
-    } else {
-        Some(Numeral { value, size })
+    if size == 0 {
+        return None;
     }
+    if 1 < size && text[0] == b'0' {
+        return None;
+    }
+    Some(Numeral { value, size })
 }
 
 // The number at the front of `text`.

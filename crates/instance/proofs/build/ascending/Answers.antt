@@ -12,5 +12,8 @@ returns-in-None c =
 pub returns-in-Some : goal.returns-in-Some
 returns-in-Some c =
     let a = c.args in
-    let last = last-some a.numbers.now.files.items c.in-Some.last.now (record { maker = 0; reader = 0; size = 0; move_time = 0 }) (rw c.as_slice.ensures.value at c.in-Some.ensures.value) in
-    λ b. rw (ascends-by b a.numbers.now a.i a.j last.0 c.in-Some.last.now.maker c.in-Some.last.now.reader (ap (λ f. f.maker) last.1) (ap (λ f. f.reader) last.1), c.lt.ensures) (grind (arith, common_steps))
+    let last = last-some a.numbers.now.files.items c.in-Some.last.now (record { maker = 0; reader = 0; size = 0; move_time = 0 })
+    (rw c.as_slice.ensures.value at c.in-Some.ensures.value) in
+    λ b.
+    rw (ascends-by b a.numbers.now a.i a.j last.0 c.in-Some.last.now.maker c.in-Some.last.now.reader (ap (λ f. f.maker) last.1) (ap (λ f. f.reader) last.1))
+    (grind (arith, common_steps))
