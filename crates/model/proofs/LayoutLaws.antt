@@ -3,13 +3,14 @@ use Prim.Native.Nat.{ℕ, ◌≤◌, ◌<◌}
 use mathlib.Core.List.{List}
 use mathlib.Core.Path.{◌≡◌, refl, ap}
 use native.Mathlib.Omega.{arith}
-use borrow.Author.Tests.{le-leb, lt-leb}
+use borrow.Author.Tests.{le-leb, lt-leb, lt-ltb}
 use lib.ListN.{length, get_or-map}
 use Rattle.std.proofs.lemmas.List.{length-map}
 use Rattle.rules.specs.Model.{blue, red, Instance, Task, file_at, file_count, task_at, task_count, limit_of, side_of, time_on}
 use Rattle.rules.specs.Model.{run_at, start_at, move_at}
 use Rattle.rules.specs.Limits.{processor_counts, run_times, work_sizes}
 use Rattle.rules.specs.Promises.{In, WellFormed}
+use Rattle.rules.specs.Validity.{Complete}
 use Rattle.rules.specs.declared.Board.{Board}
 use Rattle.rules.proofs.CountLaws.{get_or-list_below}
 use Rattle.model.specs.declared.layout.Task.{Task as StoredTask}
@@ -17,7 +18,8 @@ use Rattle.model.specs.declared.layout.File.{File as StoredFile}
 use Rattle.model.specs.declared.colour.Colour.{Colour}
 use Rattle.model.specs.declared.colour.Colour.TheVariants.{Blue, Red}
 use Rattle.model.specs.Colours.{as_colour, by_colour}
-use Rattle.model.specs.Layout.{Entries, as_task, as_file, stored_task, stored_file, run_from, instance_of, schedule_from, colour_at, count_in, JobBounds}
+use Rattle.model.specs.Layout.{Entries, as_task, as_file, stored_task, stored_file, run_from, instance_of, schedule_from, colour_at, count_in}
+use Rattle.model.specs.Layout.{OnBoard, JobBounds, Placed}
 
 pub time-by : (x : Colour) (a : Task) → time_on (as_colour x) a ≡ by_colour x a.on_blue a.on_red
 time-by Blue a = refl
@@ -56,6 +58,16 @@ module _ (b : Board) (ts : List StoredTask) (fs : List StoredFile) where
 
   pub reader_at : (k : ℕ) → (file_at (instance_of b ts fs) k).reader ≡ (stored_file fs k).reader
   reader_at k = ap (λ f. f.reader) (file-at k)
+
+-- ---- any instance on a board
+module _ {b : Board} {I : Instance} (on : OnBoard b I) where
+  pub processors-on : (c : Colour) → (side_of I (as_colour c)).processors ≡ count_in b c
+  processors-on Blue = ap (λ s. s.processors) on.blue
+  processors-on Red = ap (λ s. s.processors) on.red
+
+  pub limit-on : (c : Colour) → limit_of I (as_colour c) ≡ by_colour c b.blue.limit b.red.limit
+  limit-on Blue = ap (λ s. s.limit) on.blue
+  limit-on Red = ap (λ s. s.limit) on.red
 
 -- ---- the schedule of n tasks and m files
 
@@ -128,3 +140,10 @@ module _ (b : Board) (ts : List StoredTask) (fs : List StoredFile) (w : WellForm
       most = omega (arith, (w.move_times k (file-in h)).most, ap (λ f. f.move_time) (file-at b ts fs k));
     };
   }
+
+-- ---- a schedule whose tasks are all placed, whatever its numbers
+pub placed-complete : (b : Board) (ts : List StoredTask) (fs : List StoredFile) (m : ℕ) (L : Entries) → Placed (length ts) L
+    → Complete (instance_of b ts fs) (schedule_from (length ts) m L)
+placed-complete b ts fs m L placed i h =
+    let l : i < length ts = omega (arith, task-count b ts fs) in
+    lt-ltb 0 (run_at (schedule_from (length ts) m L) i).processor (omega (arith, placed i l, processor-at (length ts) m L i l))

@@ -2,6 +2,8 @@
 
 -- one turn of a loop that sums, takes the greatest, or looks for an index
 pub mod StepLaws
+-- one turn of the sum of what a memory holds
+mod TotalLaws
 -- the greatest and the least over a range, as a chain of calls gives them
 pub mod RangeLaws
 -- the instance and the schedule of the arrays, by index

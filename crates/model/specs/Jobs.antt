@@ -3,6 +3,7 @@ use Rattle.std.specs.Prelude.{ℕ, ◌+◌, List, length, get_or}
 use Rattle.rules.specs.Count.{list_below}
 use Rattle.rules.specs.Model.{Instance, Schedule}
 use Rattle.rules.specs.Scheduling.{Partial}
+use Rattle.rules.specs.declared.Board.{Board}
 use Rattle.model.specs.declared.job.Job.{Job}
 use Rattle.model.specs.declared.timetable.Timetable.{Timetable}
 use Rattle.model.specs.declared.layout.Schedule.{Schedule as StoredSchedule}
@@ -29,12 +30,15 @@ ScheduleInBounds j xs = ScheduleBounds (length j.tasks.now) (length j.files.now)
 abbrev pub AllPlaced : Job → StoredSchedule → Type 0
 AllPlaced j xs = Placed (length j.tasks.now) (entries_of xs)
 
--- the last finish of each processor, blue ones first, beside the schedule
-abbrev pub partial_by : Job → Entries → List ℕ → Partial
-partial_by j L last = record {
-  schedule = schedule_by j L;
-  last_finish = list_below (j.board.blue.processors + j.board.red.processors) (λ p. get_or last p 0);
+-- the last finish of each processor of a board, blue ones first, beside a schedule
+abbrev pub partial_on : Board → Schedule → List ℕ → Partial
+partial_on b P last = record {
+  schedule = P;
+  last_finish = list_below (b.blue.processors + b.red.processors) (λ p. get_or last p 0);
 }
+
+abbrev pub partial_by : Job → Entries → List ℕ → Partial
+partial_by j L last = partial_on j.board (schedule_by j L) last
 
 abbrev pub partial_of : Job → StoredSchedule → List ℕ → Partial
 partial_of j xs last = partial_by j (entries_of xs) last

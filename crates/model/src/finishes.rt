@@ -1,7 +1,6 @@
 // The last finishes that a planner keeps beside a partial schedule.
-ghost use Rattle.std.specs.Prelude.{◌≡◌, ◌<◌, ◌≤◌, get_or, set, replicate, length};
+ghost use Rattle.std.specs.Prelude.{◌≡◌, ◌<◌, get_or, set, replicate, length};
 ghost use Rattle.rules.specs.Limits.{all_processors};
-ghost use Rattle.model.specs.Layout.{last_tick};
 
 use rules::Board;
 use std::marker::Model;
@@ -13,14 +12,14 @@ pub struct Finishes {
 }
 
 impl Model for Finishes {
-    ghost use Rattle.std.specs.Prelude.{List, ℕ};
-    ghost use Rattle.model.specs.Layout.{LastBounds};
+    ghost use Rattle.std.specs.Prelude.{◌≡◌, List, ℕ, length};
+    ghost use Rattle.rules.specs.Limits.{all_processors};
 
     ghost Value = { List ℕ };
 
     ghost view = { λ f. f.last };
 
-    ghost invariant = { λ f. LastBounds f.last };
+    ghost invariant = { λ f. length f.last ≡ all_processors };
 }
 
 impl Finishes {
@@ -37,15 +36,13 @@ impl Finishes {
     pub fn of(&self, p: usize) -> u64
         requires { p < all_processors }
         ensures value { result ≡ get_or self.now p 0 }
-        ensures upper_bound { result ≤ last_tick }
     {
         self.last[p]
     }
 
     // Writes processor p's.
     pub fn set(&mut self, p: usize, finish: u64)
-        requires p_bound { p < all_processors }
-        requires finish_bound { finish ≤ last_tick }
+        requires { p < all_processors }
         ensures value { self.new ≡ set self.old p finish }
         ensures whole { length self.old ≡ all_processors }
     {

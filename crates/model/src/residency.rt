@@ -131,9 +131,11 @@ impl Timetable<'_> {
         }
     }
 
-    // The hold of file k in the memory of the colour.
-    pub fn hold_of(&self, k: usize, colour: Colour) -> Hold
-        requires { k < length self.now.job.files.now }
+    // The hold of file k, of which these are the times, in the memory of the colour.
+    pub fn hold_by(&self, k: usize, times: FileTimes, colour: Colour) -> Hold
+        requires k_lt_files { k < length self.now.job.files.now }
+        requires times_of { TimesOf (instance_in self.now.job) (schedule_in self.now) k times }
+        requires times_within { TimesWithin last_tick times }
         ensures result_value { as_hold result ≡ hold_of (instance_in self.now.job) (schedule_in self.now) (as_colour colour) k }
         ensures within { Within last_tick result }
     {
@@ -143,9 +145,18 @@ impl Timetable<'_> {
         }
         let here = self.colour_of(maker) == colour;
         if self.is_placed(self.job.reader(k)) {
-            return closed_hold(here, self.file_times(k));
+            return closed_hold(here, times);
         }
-        open_hold(here, self.start(maker))
+        open_hold(here, times.begun)
+    }
+
+    // The hold of file k in the memory of the colour.
+    pub fn hold_of(&self, k: usize, colour: Colour) -> Hold
+        requires { k < length self.now.job.files.now }
+        ensures result_value { as_hold result ≡ hold_of (instance_in self.now.job) (schedule_in self.now) (as_colour colour) k }
+        ensures within { Within last_tick result }
+    {
+        self.hold_by(k, self.file_times(k), colour)
     }
 
     // Whether task i is placed on a processor of the colour.

@@ -1,6 +1,6 @@
 -- The partial schedule with one task more, and with nothing placed.
 use Rattle.model.specs.Layout.{schedule_from}
-use Prim.Native.Nat.{ℕ, suc, ◌+◌, ◌≤◌, ◌<◌}
+use Prim.Native.Nat.{ℕ, suc, ◌+◌, ◌<◌}
 use mathlib.Core.List.{List}
 use mathlib.Core.Path.{◌≡◌, refl, subst, sym, ap, ◌∙◌}
 use native.Mathlib.Numerals.{add-one}
@@ -11,14 +11,7 @@ use Rattle.rules.specs.Count.{list_below}
 use Rattle.rules.specs.Limits.{max_tasks, max_files, all_processors}
 use Rattle.rules.specs.Model.{Instance, Run, unplaced, processor_count, file_count, time_on, task_at}
 use Rattle.rules.specs.Scheduling.{Partial, slot_of, chosen_processor, move_with, assign, empty, finish_on}
-use Rattle.rules.specs.Model.{Colour as RulesColour}
-use Rattle.rules.specs.Promises.{WellFormed, Trial as IsTrial}
-use Rattle.rules.specs.Scheduling.{aware}
-use Rattle.rules.specs.Staircase.{Placed, placed}
 use Rattle.rules.proofs.CountLaws.{list_set, list_same, get_or-same}
-use Rattle.rules.proofs.PlacedLaws.{count-waits}
-use Rattle.rules.proofs.StairsLaws.{placed-sound}
-use Rattle.rules.proofs.StartLaws.{starts, free-processor, processor_law, slot_for, slot-exists, last-here}
 use Rattle.model.specs.declared.layout.Run.{Run as StoredRun}
 use Rattle.model.specs.declared.layout.Schedule.{Schedule as StoredSchedule}
 use Rattle.model.specs.declared.colour.Colour.{Colour}
@@ -27,12 +20,12 @@ use Rattle.model.specs.Colours.{as_colour}
 use Rattle.model.specs.declared.job.Job.{Job}
 use Rattle.model.specs.Layout.{entries_of, run_from, count_in, WholeSchedule, unplaced as no_runs}
 use Rattle.model.specs.Jobs.{instance_in, schedule_of, partial_by}
-use Rattle.model.specs.Layout.{last_tick, with_run_at}
+use Rattle.model.specs.Layout.{with_run_at}
 use Rattle.model.proofs.LayoutLaws.{processors-of}
-use Rattle.model.proofs.JobLaws.{files-in, tasks-in}
+use Rattle.model.proofs.JobLaws.{on-board, files-in, tasks-in}
 use Rattle.model.proofs.WriteLaws.{run-here, run-other}
 use Rattle.placement.specs.Slots.{slot_in}
-use Rattle.placement.proofs.SlotLaws.{slot_at, slot-exists as slot-within}
+use Rattle.placement.proofs.SlotLaws.{slot_at, slot-exists}
 
 -- ---- the whole
 
@@ -59,7 +52,7 @@ module _ (j : Job) (xs : StoredSchedule) (last : List ℕ) (x : Colour) {i : ℕ
 
       -- the place of the processor chosen
       at : slot_of I (as_colour x) (chosen_processor I Q (as_colour x) s) ≡ slot
-      at = slot_at j x _ ∙ rw (here, chosen)
+      at = slot_at (on-board j) x _ ∙ rw (here, chosen)
 
       finish : s + time ≡ finish_on I i (as_colour x) s
       finish = omega arith
@@ -74,7 +67,7 @@ module _ (j : Job) (xs : StoredSchedule) (last : List ℕ) (x : Colour) {i : ℕ
       last-placed : list_below (j.board.blue.processors + j.board.red.processors) (λ q. get_or (set last slot (s + time)) q 0)
           ≡ set (list_below (j.board.blue.processors + j.board.red.processors) (λ q. get_or last q 0)) slot (s + time)
       last-placed =
-          let u : slot < j.board.blue.processors + j.board.red.processors = omega (arith, slot-within j x p exists) in
+          let u : slot < j.board.blue.processors + j.board.red.processors = omega (arith, slot-exists j.board x p exists) in
           list_set _ (λ q. get_or last q 0) (λ q. get_or (set last slot (s + time)) q 0) slot (s + time) u
           (get_or-set_same last slot (s + time) 0 (omega (arith, j.in_bounds.processors.blue.most, j.in_bounds.processors.red.most)))
           (λ q h d. get_or-set_other last slot q (s + time) 0 d)
@@ -82,24 +75,6 @@ module _ (j : Job) (xs : StoredSchedule) (last : List ℕ) (x : Colour) {i : ℕ
       pub assigned : {zs : StoredSchedule} → zs ≡ with_run_at ys i (slot + 1) s → partial_by j (entries_of zs) (set last slot (s + time)) ≡ assign I Q i (as_colour x) s
       unfolding assign schedule_from
       assigned e = rw (e, at, ← finish) (parts runs-placed moves last-placed)
-
--- ---- a trial that is placed ends in time
-
-pub finish-bound : (I : Instance) → WellFormed I → {Q : Partial} → Placed I Q → (i : ℕ) (c : RulesColour) (s : ℕ) → IsTrial aware I Q i c s
-    → finish_on I i c s ≤ last_tick
-finish-bound I W {Q} p i c s T =
-    let r = placed-sound I W p in
-    let z = placed-sound I W (placed i c s p T) in
-    let q = free-processor I Q c s (W.processors c).least (omega (arith, (starts aware I Q i c s T.earliest).start)) in
-    let e = slot-exists I c (chosen_processor I Q c s) (processor_law I Q c s q.0 q.1 q.2).0 in
-    omega (
-      arith,
-      z.1.last_bound (slot_for I Q c s),
-      last-here I Q i c s (omega (arith, e, r.1.slots)),
-      z.1.count,
-      count-waits I (assign I Q i c s).schedule,
-      W.tasks.most,
-    )
 
 -- ---- nothing placed
 

@@ -3,52 +3,54 @@ ghost use Rattle.std.specs.Prelude.{◌≡◌, ◌&&◌, ◌<◌, leb, eqb, IfSo
 ghost use Rattle.std.specs.Option.{unwrap_or};
 ghost use Rattle.rules.specs.Count.{max_where};
 ghost use Rattle.rules.specs.Limits.{all_processors};
+ghost use Rattle.rules.specs.Model.{Instance, Schedule};
 ghost use Rattle.rules.specs.Scheduling.{chosen_processor};
 ghost use Rattle.model.specs.Colours.{as_colour};
-ghost use Rattle.model.specs.Jobs.{instance_in};
-ghost use Rattle.model.specs.Layout.{Entries, count_in};
-ghost use Rattle.model.specs.Jobs.{partial_by};
+ghost use Rattle.model.specs.Jobs.{partial_on};
+ghost use Rattle.model.specs.Layout.{OnBoard, Processors, count_in};
 ghost use Rattle.placement.specs.Slots.{slot_in, last_in};
 
 use model::colour::{Colour, by_colour};
 use model::finishes::Finishes;
-use model::job::Job;
+use rules::Board;
 
 // The processors of the colour.
-fn count_in(job: &Job, colour: Colour) -> usize
-    ensures { result ≡ count_in job.now.board colour }
+fn count_in(board: Board, colour: Colour) -> usize
+    ensures { result ≡ count_in board colour }
 {
-    let board = job.board;
     by_colour(colour, board.blue.processors, board.red.processors) as usize
 }
 
 // The place among the last finishes of the colour's processor p, counted from 0 within the colour.
-pub fn slot_in(job: &Job, colour: Colour, p: usize) -> usize
-    requires { p < count_in job.now.board colour }
-    ensures value { result ≡ slot_in job.now.board colour p }
+pub fn slot_in(board: Board, colour: Colour, p: usize) -> usize
+    requires processors { Processors board }
+    requires p_bound { p < count_in board colour }
+    ensures value { result ≡ slot_in board colour p }
     ensures upper_bound { result < all_processors }
 {
     match colour {
         Colour::Blue => p,
-        Colour::Red => job.board.blue.processors as usize + p,
+        Colour::Red => board.blue.processors as usize + p,
     }
 }
 
 // The finish of the last run placed on that processor.
-fn last_in(job: &Job, finishes: &Finishes, colour: Colour, p: usize) -> u64
-    requires { p < count_in job.now.board colour }
-    ensures { result ≡ last_in job.now.board finishes.now colour p }
+fn last_in(board: Board, finishes: &Finishes, colour: Colour, p: usize) -> u64
+    requires processors { Processors board }
+    requires p_bound { p < count_in board colour }
+    ensures { result ≡ last_in board finishes.now colour p }
 {
-    finishes.of(slot_in(job, colour, p))
+    finishes.of(slot_in(board, colour, p))
 }
 
 // The latest last finish of the colour's processors that are free by the start; 0 if there are none.
-fn latest_in(job: &Job, finishes: &Finishes, colour: Colour, start: u64) -> u64
-    ensures { result ≡ max_where (count_in job.now.board colour)
-        (λ p. leb (last_in job.now.board finishes.now colour p) start) (last_in job.now.board finishes.now colour) }
+fn latest_in(board: Board, finishes: &Finishes, colour: Colour, start: u64) -> u64
+    requires { Processors board }
+    ensures { result ≡ max_where (count_in board colour)
+        (λ p. leb (last_in board finishes.now colour p) start) (last_in board finishes.now colour) }
 {
-    (0..count_in(job, colour))
-        .map(|p| last_in(job, finishes, colour, p))
+    (0..count_in(board, colour))
+        .map(|p| last_in(board, finishes, colour, p))
         .filter(|finish| *finish <= start)
         .max()
         .unwrap_or(0)
@@ -62,14 +64,20 @@ fn is_latest_free(finish: u64, start: u64, latest: u64) -> bool
 }
 
 // The processor chosen, counted from 0 within the colour, if one is free by the start. The rules have the colour's count for none.
-pub fn chosen_processor(job: &Job, finishes: &Finishes, colour: Colour, start: u64) -> Option<usize>
-    ensures value { (L : Entries) → unwrap_or result (count_in job.now.board colour) ≡
-        chosen_processor (instance_in job.now) (partial_by job.now L finishes.now) (as_colour colour) start }
-    ensures exists { IfSome result (λ p. p < count_in job.now.board colour) }
+pub fn chosen_processor(
+    board: Board,
+    finishes: &Finishes,
+    colour: Colour,
+    start: u64,
+) -> Option<usize>
+    requires { Processors board }
+    ensures value { (I : Instance) (P : Schedule) → OnBoard board I → unwrap_or result (count_in board colour) ≡
+        chosen_processor I (partial_on board P finishes.now) (as_colour colour) start }
+    ensures exists { IfSome result (λ p. p < count_in board colour) }
 {
-    let latest = latest_in(job, finishes, colour, start);
-    (0..count_in(job, colour)).find(|p| is_latest_free(
-        last_in(job, finishes, colour, *p),
+    let latest = latest_in(board, finishes, colour, start);
+    (0..count_in(board, colour)).find(|p| is_latest_free(
+        last_in(board, finishes, colour, *p),
         start,
         latest,
     ))

@@ -2,10 +2,10 @@
 ghost use Rattle.std.specs.Prelude.{◌≡◌, ◌<◌, ◌≤◌, length};
 ghost use Rattle.rules.specs.Model.{blue, red};
 ghost use Rattle.rules.specs.Promises.{WellFormed, Trial as IsTrial};
-ghost use Rattle.rules.specs.Scheduling.{aware, processor_start, finish_on, assign as rules-assign};
+ghost use Rattle.rules.specs.Scheduling.{aware, processor_start, assign as rules-assign};
 ghost use Rattle.rules.specs.Staircase.{Placed};
 ghost use Rattle.model.specs.Colours.{as_colour};
-ghost use Rattle.model.specs.Layout.{WholeSchedule, last_start, last_tick};
+ghost use Rattle.model.specs.Layout.{WholeSchedule, last_start};
 ghost use Rattle.model.specs.Jobs.{schedule_of, partial_of};
 ghost use Rattle.model.specs.Jobs.{instance_in};
 ghost use Rattle.staircase.specs.Stairs.{HoldsStairs};
@@ -27,15 +27,14 @@ fn assign(links: &Links, schedule: &mut layout::Schedule, finishes: &mut Finishe
     requires i_lt_tasks { (trial.task < length links.now.job.tasks.now) × (trial.start ≤ last_start) }
     requires colour_bound { processor_start (instance_in links.now.job) (partial_of links.now.job schedule.old finishes.old) (as_colour trial.colour)
         ≤ trial.start }
-    requires finish_bound { finish_on (instance_in links.now.job) trial.task (as_colour trial.colour) trial.start ≤ last_tick }
     ensures schedule_len_2 { WholeSchedule schedule.new }
     ensures finishes_after { partial_of links.now.job schedule.new finishes.new ≡
         rules-assign (instance_in links.now.job) (partial_of links.now.job schedule.old finishes.old)
         trial.task (as_colour trial.colour) trial.start }
 {
     set_moves(links, schedule, trial);
-    let p = chosen_processor(&links.job, finishes, trial.colour, trial.start).unwrap();
-    let slot = slot_in(&links.job, trial.colour, p);
+    let p = chosen_processor(links.job.board, finishes, trial.colour, trial.start).unwrap();
+    let slot = slot_in(links.job.board, trial.colour, p);
     schedule.set_run(trial.task, slot as u64 + 1, trial.start);
     let finish = trial.start + links.job.run_time(trial.task, trial.colour);
     finishes.set(slot, finish);

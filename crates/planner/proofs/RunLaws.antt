@@ -23,9 +23,9 @@ use Rattle.model.specs.declared.colour.Colour.{Colour}
 use Rattle.model.specs.declared.colour.Colour.TheVariants.{Blue, Red}
 use Rattle.model.specs.Colours.{as_colour}
 use Rattle.model.specs.declared.job.Job.{Job}
-use Rattle.model.specs.Layout.{Entries, ScheduleBounds}
+use Rattle.model.specs.Layout.{Entries, ScheduleBounds, LastBounds}
 use Rattle.model.specs.Jobs.{instance_in, schedule_by, partial_by}
-use Rattle.model.proofs.JobLaws.{tasks-in, files-in, limit-in, run-in, move-in}
+use Rattle.model.proofs.JobLaws.{tasks-in, files-in, limit-in, run-in, move-in, last-finish-at}
 use Rattle.std.specs.Prelude.{Option, None, Some}
 use Rattle.rules.specs.Staircase.{Step}
 use Rattle.model.specs.declared.colour.ByColour.{ByColour}
@@ -65,6 +65,9 @@ module _ (j : Job) (W : WellFormed (instance_in j)) (L : Entries) (last : List �
     start = λ i h. omega (arith, ap (λ r. r.start) (run-in j L i h), S.start_bound i, few);
     move_start = λ k h. omega (arith, move-in j L k h, move_bound (instance_in j) placed (partial_by j L last) S k (omega (arith, files-in j)), few);
   }
+
+  pub sound-last : LastBounds j.board last
+  sound-last q h = omega (arith, last-finish-at j L last q h, S.last_bound q, few)
 
   pub sound-ticks : (c : RulesColour) {ss : List Step} → HoldsStairs (instance_in j) (schedule_by j L) c ss → TicksWithin ss
   sound-ticks c H = record {
@@ -116,6 +119,9 @@ module _ (R : Planner) (j : Job) (W : WellFormed (instance_in j)) (A : Suited R 
     Q = partial_by j L last
 
     -- ---- what a round asks
+
+    pub planning-last : LastBounds j.board last
+    planning-last = sound-last j W L last p.sound p.most
 
     pub planning-stairs : StairsBounds stairs
     planning-stairs = record {

@@ -1,5 +1,5 @@
 -- The code's planner and outcome, as the rules have them.
-use Rattle.std.specs.Prelude.{ℕ, ◌≤◌, ◌<◌, List, ◌≡◌, length, IfOk, Result, Ok, Err}
+use Rattle.std.specs.Prelude.{ℕ, ◌≤◌, ◌<◌, List, ◌≡◌, map, length, IfOk, Result, Ok, Err}
 use Rattle.rules.specs.Model.{Instance, Schedule}
 use Rattle.rules.specs.Validity.{true_claim}
 use Rattle.rules.specs.Scheduling as Rules
@@ -27,6 +27,10 @@ as_outcome r P = ended r.claim r.trials P
 -- a complete outcome claims what is true of the schedule
 abbrev pub Claims : Instance → Schedule → Outcome → Type 0
 Claims I P r = IfOk r.claim (λ claim. as_claim claim ≡ true_claim I P)
+
+-- the amounts of the steps, without their ticks
+abbrev pub amounts : List Step → List ℕ
+amounts xs = map (λ (s : Step). s.free) xs
 
 -- at least one step, the first with no more free than the limit
 pub record FreeWithin (limit : ℕ) (steps : List Step) : Type 0 where

@@ -5,7 +5,7 @@ ghost use Rattle.rules.specs.Promises.{WellFormed, Trial as IsTrial};
 ghost use Rattle.rules.specs.Scheduling.{aware, by_weight, round_of, assign, outcome};
 ghost use Rattle.model.specs.Colours.{as_colour};
 ghost use Rattle.model.specs.Jobs.{instance_in};
-ghost use Rattle.model.specs.Layout.{Entries, unplaced, WholeSchedule, last_start};
+ghost use Rattle.model.specs.Layout.{Entries, unplaced, WholeSchedule, LastBounds, last_start};
 ghost use Rattle.model.specs.Jobs.{schedule_of, partial_of, partial_by};
 ghost use Rattle.starts.specs.Kept.{Kept, StairsBounds};
 ghost use Rattle.selection.specs.Choices.{as_round, ChoiceBounds, OrderBounds};
@@ -39,6 +39,7 @@ pub struct State {
 // One round of the planner; `order` is HEFT's list.
 fn round(rule: Rule, job: &Job, order: &[usize], state: &State) -> Round
     requires bounds { StairsBounds state.now.stairs }
+    requires last_bounds { LastBounds job.now.board state.now.finishes }
     requires order_bounds { OrderBounds (length job.now.tasks.now) order.now }
     requires p_value { order.now ≡ by_weight (instance_in job.now) (task_count (instance_in job.now)) }
     ensures result_value { (L : Entries) →
@@ -121,7 +122,9 @@ fn rounds(rule: Rule, links: &Links, order: &[usize], schedule: &mut layout::Sch
         };
         place_task(links, schedule, &mut state, trial);
     }
-    let claim = claim_from(&links.job, &state.finishes, &state.stairs);
+    let blue = state.stairs.blue.steps();
+    let red = state.stairs.red.steps();
+    let claim = claim_from(links.job.board, &state.finishes, blue, red);
     Outcome {
         trials,
         claim: Ok(claim),

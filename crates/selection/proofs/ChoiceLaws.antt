@@ -47,3 +47,15 @@ module _ {I : Instance} {Q : Partial} {needs : Needs} {stairs : ByColour (List S
     stairs = K.red;
     idle = e.red;
   }
+
+-- ---- the same lists by other names
+
+pub kept_as : {I : Instance} {Q : Partial} {needs : Needs} {stairs : ByColour (List Step)} {xs ys : List Step} → Kept I Q needs stairs
+    → xs ≡ stairs.blue → ys ≡ stairs.red → Kept I Q needs (record { blue = xs; red = ys })
+kept_as K e f = record {
+  well_formed = K.well_formed;
+  placed = K.placed;
+  needs = K.needs;
+  blue = rw e K.blue;
+  red = rw f K.red;
+}

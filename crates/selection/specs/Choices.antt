@@ -1,11 +1,15 @@
 -- The code's choice and round, as the rules have them, and the bounds of what they hold.
 use Rattle.std.specs.Prelude.{ℕ, ◌≤◌, ◌<◌, Bool, true, false, List, ◌≡◌, length, get_or, Option, None, Some, IfSome}
 use Rattle.rules.specs.Model.{blue, red, Instance}
+use Rattle.std.specs.Borrow.{Bor}
+use Rattle.rules.specs.Staircase.{Step as Pair}
 use Rattle.rules.specs.Scheduling.{Partial, processor_start, Choice as Chosen, nothing, choose, Round as Made}
 use Rattle.model.specs.declared.colour.ByColour.{ByColour}
 use Rattle.model.specs.Colours.{as_colour}
 use Rattle.model.specs.Layout.{last_tick, last_start}
 use Rattle.model.specs.declared.trial.Trial.{Trial}
+use Rattle.staircase.specs.declared.Step.{Step}
+use Rattle.staircase.specs.Steps.{as_steps}
 use Rattle.selection.specs.declared.round.Round.{Round}
 
 abbrev pub as_choice : Option Trial → Chosen
@@ -40,3 +44,7 @@ pub record IdleOf (I : Instance) (Q : Partial) (x : ByColour ℕ) : Type 0 where
 -- neither is later than a finish can be
 abbrev pub IdleBounds : ByColour ℕ → Type 0
 IdleBounds x = (x.blue ≤ last_tick) × (x.red ≤ last_tick)
+
+-- both memories' lists of pairs, of the steps lent
+abbrev pub stairs_in : ByColour (Bor (List Step)) → ByColour (List Pair)
+stairs_in x = record { blue = as_steps x.blue.now; red = as_steps x.red.now }

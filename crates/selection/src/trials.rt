@@ -5,7 +5,7 @@ ghost use Rattle.model.specs.Colours.{as_colour};
 ghost use Rattle.model.specs.Layout.{last_start};
 ghost use Rattle.staircase.specs.Steps.{as_option};
 ghost use Rattle.starts.specs.Kept.{StairsBounds};
-ghost use Rattle.selection.specs.Choices.{as_choice, ChoiceBounds, IdleBounds};
+ghost use Rattle.selection.specs.Choices.{as_choice, stairs_in, ChoiceBounds, IdleBounds};
 
 use super::trial::earlier;
 use model::colour::{ByColour, Colour};
@@ -13,19 +13,19 @@ use model::finishes::Finishes;
 use model::job::Job;
 use model::trial::Trial;
 use needs::table::Needs;
-use staircase::Staircase;
+use staircase::{Staircase, Step};
 use starts::memory::Memory;
 use starts::start::{earliest_start, processor_start};
 
-// Whether the planner looks at memory; the job; what is kept beside the partial schedule; start 1 of both colours.
+// Whether the planner looks at memory; the job; what is kept beside the partial schedule, of the two staircases their steps; start 1 of both colours.
 #[derive(Clone, Copy)]
 pub struct Trials<'a> {
     pub memory: Memory,
     pub job: Job<'a>,
     pub needs: &'a Needs,
-    pub stairs: &'a ByColour<Staircase>,
+    pub stairs: ByColour<&'a [Step]>,
     pub idle: ByColour<u64>,
-    ghost stairs_bounds: { StairsBounds stairs.now },
+    ghost stairs_bounds: { StairsBounds (stairs_in stairs) },
     ghost idle_bounds: { IdleBounds idle },
 }
 
@@ -47,7 +47,7 @@ impl Trials<'_> {
     ghost use Rattle.std.specs.Prelude.{true, ◌≡◌, ◌<◌};
     ghost use Rattle.rules.specs.Scheduling.{Partial, ready, both_colours};
     ghost use Rattle.model.specs.Jobs.{instance_in};
-    ghost use Rattle.model.specs.Layout.{Entries};
+    ghost use Rattle.model.specs.Layout.{Entries, LastBounds};
     ghost use Rattle.model.specs.Jobs.{partial_by};
     ghost use Rattle.starts.specs.Kept.{Kept, StairsBounds};
     ghost use Rattle.starts.specs.Memories.{as_memory};
@@ -62,7 +62,8 @@ impl Trials<'_> {
         needs: &'a Needs,
         stairs: &'a ByColour<Staircase>,
     ) -> Trials<'a>
-        requires { StairsBounds stairs.now }
+        requires stairs_bounds { StairsBounds stairs.now }
+        requires last_bounds { LastBounds job.board finishes.now }
         ensures same { (result.memory ≡ memory) × (result.job ≡ job.entry) }
         ensures trials_of { (L : Entries) →
             Kept (instance_in job.entry) (partial_by job.entry L finishes.now) needs.now stairs.now →
@@ -72,10 +73,13 @@ impl Trials<'_> {
             memory,
             job,
             needs,
-            stairs,
+            stairs: ByColour {
+                blue: stairs.blue.steps(),
+                red: stairs.red.steps(),
+            },
             idle: ByColour {
-                blue: processor_start(&job, finishes, Colour::Blue),
-                red: processor_start(&job, finishes, Colour::Red),
+                blue: processor_start(job.board, finishes, Colour::Blue),
+                red: processor_start(job.board, finishes, Colour::Red),
             },
         }
     }
@@ -92,14 +96,14 @@ impl Trials<'_> {
         let on_blue = earliest_start(
             self.memory,
             need,
-            &self.stairs.blue,
+            self.stairs.blue,
             self.idle.blue,
             Colour::Blue,
         );
         let on_red = earliest_start(
             self.memory,
             need,
-            &self.stairs.red,
+            self.stairs.red,
             self.idle.red,
             Colour::Red,
         );

@@ -8,12 +8,11 @@ ghost use Rattle.simulator.specs.Answers.{number_at};
 ghost use Rattle.simulator.specs.Faults.{begun_overlaps, overlaps_begun, starts_overlapping, early_move, early_by};
 
 use super::answer::TickFault;
-use model::colour::Colour;
 use model::residency::FileTimes;
 use model::timetable::Timetable;
 use runs::overlapping_runs;
 use validator::exclusion::run_of;
-use validator::timing::starts_early;
+use validator::timing::{moves_early, starts_early};
 
 // Whether two tasks are two, and their runs are on one processor and share an instant.
 fn overlapping_tasks(t: &Timetable, i: usize, j: usize) -> bool
@@ -63,7 +62,10 @@ fn shares_at(t: &Timetable, tick: u64) -> bool
 fn moves_early_at(times: FileTimes, tick: u64) -> bool
     ensures { result ≡ early_move times tick }
 {
-    times.transfer.is_some_and(|transfer| transfer.departs < times.made && transfer.departs == tick)
+    moves_early(times)
+        && times
+            .transfer
+            .is_some_and(|transfer| transfer.departs == tick)
 }
 
 // Whether the tick is an early move of a file with these times, or the start of its reader before it has arrived.
@@ -93,8 +95,8 @@ fn over_at(t: &Timetable, tick: u64) -> bool
     ensures { result ≡ over (instance_in t.now.job) (schedule_in t.now) tick }
 {
     let board = t.job.board;
-    board.blue.limit < t.held_at(Colour::Blue, tick)
-        || board.red.limit < t.held_at(Colour::Red, tick)
+    let held = t.totals_at(tick);
+    board.blue.limit < held.blue || board.red.limit < held.red
 }
 
 // The fault of the tick: 15, 16 or 17 in this order, if it has one.

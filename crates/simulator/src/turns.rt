@@ -1,16 +1,16 @@
 // The ticks at which a run, a move or a hold starts or ends, here a turn: the next one from a tick on. A hold is that of a file or, by Order 6,
 // that of a task's working memory.
-ghost use Rattle.std.specs.Prelude.{◌||◌, eqb, ◌<◌, ◌≤◌, length};
+ghost use Rattle.std.specs.Prelude.{ℕ, ◌||◌, eqb, ◌<◌, ◌≤◌, length};
 ghost use Rattle.rules.specs.Count.{any_below};
-ghost use Rattle.rules.specs.Model.{task_count, file_count};
+ghost use Rattle.rules.specs.Model.{Instance, Schedule, task_count, file_count};
 ghost use Rattle.rules.specs.Simulation.{turns, run_turns, task_turns, move_turns, file_turns, is_turn};
-ghost use Rattle.model.specs.Holds.{as_hold, Within};
+ghost use Rattle.model.specs.Holds.{TransferOf, TransferWithin, as_hold, Within};
 ghost use Rattle.model.specs.Jobs.{instance_in, schedule_in};
 ghost use Rattle.model.specs.Layout.{last_tick};
 ghost use Rattle.simulator.specs.Turns.{Soonest};
 
 use model::colour::Colour;
-use model::residency::Hold;
+use model::residency::{Hold, Transfer};
 use model::tick::sooner;
 use model::timetable::Timetable;
 
@@ -70,24 +70,25 @@ fn next_of_task(t: &Timetable, i: usize, from: u64) -> Option<u64>
     sooner(running, working)
 }
 
-// The next start or end of file k's move.
-fn next_of_move(t: &Timetable, k: usize, from: u64) -> Option<u64>
-    requires { k < length t.now.job.files.now }
-    ensures { Soonest (λ u. move_turns (instance_in t.now.job) (schedule_in t.now) u k) from result }
+// The next start or end of a file's move, if it moves.
+fn next_of_move(transfer: Option<Transfer>, from: u64) -> Option<u64>
+    requires { TransferWithin last_tick transfer }
+    ensures { (I : Instance) (P : Schedule) (k : ℕ) → TransferOf I P k transfer → Soonest (λ u. move_turns I P u k) from result }
 {
-    let transfer = t.file_times(k).transfer?;
+    let transfer = transfer?;
     next_of_two(from, transfer.departs, transfer.arrives)
 }
 
-// The next start or end of file k's move or of one of its holds. One function for this and `next_of_task` would take the two holds and the first
-// turn, and be as long as either.
+// The next start or end of file k's move or of one of its holds, all by its times, which are worked out once: most of a walk's time is spent here.
+// One function for this and `next_of_task` would take the two holds and the first turn, and be as long as either.
 fn next_of_file(t: &Timetable, k: usize, from: u64) -> Option<u64>
     requires { k < length t.now.job.files.now }
     ensures { Soonest (λ u. file_turns (instance_in t.now.job) (schedule_in t.now) u k) from result }
 {
-    let moving = next_of_move(t, k, from);
-    let blue = t.hold_of(k, Colour::Blue);
-    let red = t.hold_of(k, Colour::Red);
+    let times = t.file_times(k);
+    let moving = next_of_move(times.transfer, from);
+    let blue = t.hold_by(k, times, Colour::Blue);
+    let red = t.hold_by(k, times, Colour::Red);
     let held = next_of_holds(from, blue, red);
     sooner(moving, held)
 }

@@ -125,14 +125,13 @@ least-fold (x ∷ xs) f k a e h =
     let here : x.free ≡ f (suc k) = h 0 ∙ ap f (omega arith) in
     rw z (least-fold xs f (suc k) (min a x.free) (rw (e, here)) (λ i. h (suc i) ∙ ap f (omega arith)))
 
-least-of : (xs : List Step) → 0 < length xs → unwrap_or (reduce min (map (λ s. s.free) xs)) 0 ≡ least_free (as_steps xs)
+least-of : (xs : List Step) → unwrap_or (reduce min (map (λ s. s.free) xs)) 0 ≡ least_free (as_steps xs)
 unfolding least_free min_up_to
-least-of [] l = absurd (omega arith)
-least-of (x ∷ xs) l =
+least-of [] = refl
+least-of (x ∷ xs) =
     let z : 0 + length xs ≡ length xs = omega arith in
     rw (length-map xs as_step) (rw z at (least-fold xs (λ k. (step_at (as_steps (x ∷ xs)) k).free) 0 x.free refl (λ i. ap (λ k. (step_at (as_steps xs) k).free) (omega arith))))
 
 -- what `map(free).min().unwrap_or(0)` gives of them
-pub least-found : (xs : List Step) {ss : List Pair} → as_steps xs ≡ ss → 0 < length xs → (o : Option ℕ) → option_map (λ x. x) o ≡ reduce min (map (λ s. s.free) xs)
-    → unwrap_or o 0 ≡ least_free ss
-least-found xs v l o e = rw (← v) (ap (λ o. unwrap_or o 0) (sym (option_map_id o) ∙ e) ∙ least-of xs l)
+pub least-found : (xs : List Step) (o : Option ℕ) → option_map (λ x. x) o ≡ reduce min (map (λ s. s.free) xs) → unwrap_or o 0 ≡ least_free (as_steps xs)
+least-found xs o e = ap (λ o. unwrap_or o 0) (sym (option_map_id o) ∙ e) ∙ least-of xs

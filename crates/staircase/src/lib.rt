@@ -6,7 +6,7 @@ mod steps;
 ghost use Rattle.std.specs.Prelude.{◌≡◌, ℕ, ◌+◌, ◌<◌, ◌≤◌, length, get_or, IfSome};
 ghost use Rattle.rules.specs.Limits.{max_pairs};
 ghost use Rattle.rules.specs.Staircase.{step_at, steps_after, free_from_steps, least_free};
-ghost use Rattle.staircase.specs.Steps.{start_steps, change_by, as_option, Fits, Position};
+ghost use Rattle.staircase.specs.Steps.{as_steps, start_steps, change_by, as_option, Fits, Position};
 
 use arrayvec::ArrayVec;
 use rules::Board;
@@ -79,7 +79,14 @@ impl Staircase {
         change_at(&mut self.steps, p, tick, amount, rises);
     }
 
-    // Starts 3 and 4 in one walk: from when on `all` is free, and from when on `some` of it.
+    // The steps, in order.
+    pub fn steps(&self) -> &[Step]
+        ensures { as_steps result.now ≡ self.now }
+    {
+        self.steps.as_slice()
+    }
+
+    // Starts 3 and 4, from these steps.
     pub fn both_from(&self, all: u64, some: u64) -> Starts
         requires { some ≤ all }
         ensures third_value { as_option result.third ≡ free_from_steps self.now all }
@@ -87,20 +94,37 @@ impl Staircase {
         ensures by_index { (b : ℕ) → ((k : ℕ) → k < length self.now → (step_at self.now k).tick ≤ b) →
             IfSome result.third (λ t. t ≤ b) × IfSome result.fourth (λ t. t ≤ b) }
     {
-        let steps = self.steps.as_slice();
-        let third = settled(steps, all);
-        let before = &steps[..third.unwrap_or(steps.len())];
-        let fourth = settled(before, some).or(third);
-        Starts {
-            third: tick_of(steps, third),
-            fourth: tick_of(steps, fourth),
-        }
+        both_from(self.steps(), all, some)
     }
 
-    // The least amount of the steps.
+    // The least amount of these steps.
     pub fn least(&self) -> u64
         ensures { result ≡ least_free self.now }
     {
-        self.steps.iter().map(|step| step.free).min().unwrap_or(0)
+        least(self.steps())
     }
+}
+
+// Starts 3 and 4 in one walk: from when on `all` is free, and from when on `some` of it. Any steps serve, in any order of ticks.
+pub fn both_from(steps: &[Step], all: u64, some: u64) -> Starts
+    requires { some ≤ all }
+    ensures third_value { as_option result.third ≡ free_from_steps (as_steps steps.now) all }
+    ensures fourth_value { as_option result.fourth ≡ free_from_steps (as_steps steps.now) some }
+    ensures by_index { (b : ℕ) → ((k : ℕ) → k < length (as_steps steps.now) → (step_at (as_steps steps.now) k).tick ≤ b) →
+        IfSome result.third (λ t. t ≤ b) × IfSome result.fourth (λ t. t ≤ b) }
+{
+    let third = settled(steps, all);
+    let before = &steps[..third.unwrap_or(steps.len())];
+    let fourth = settled(before, some).or(third);
+    Starts {
+        third: tick_of(steps, third),
+        fourth: tick_of(steps, fourth),
+    }
+}
+
+// The least amount of the steps, 0 if there is none.
+pub fn least(steps: &[Step]) -> u64
+    ensures { result ≡ least_free (as_steps steps.now) }
+{
+    steps.iter().map(|step| step.free).min().unwrap_or(0)
 }

@@ -1,27 +1,28 @@
 -- Start 1 over the array of last finishes, starts 3 and 4, and all of them together.
-use Rattle.model.specs.Layout.{instance_of}
-use Rattle.model.specs.Jobs.{instance_in, partial_by}
+use Rattle.model.specs.Jobs.{partial_on}
 use Prim.Native.Nat.{ℕ, ◌+◌, ◌<◌, ◌≤◌, max, pred}
 use mathlib.Core.List.{List}
 use mathlib.Core.Option.{none, some}
-use mathlib.Core.Path.{◌≡◌, refl, sym, ◌∙◌, ap}
+use mathlib.Core.Path.{◌≡◌, sym, ◌∙◌, ap}
 use native.Mathlib.Omega.{arith}
 use lib.ListN.{get_or}
 use Rattle.rules.specs.Count.{min_up_to}
 use Rattle.rules.specs.Model.{Instance, work_at, Schedule}
 use Rattle.rules.specs.Model as Model
-use Rattle.rules.specs.Scheduling.{Partial, processor_start, crossing_size, output_size, free_from, latest, delayed, memory_start, earliest_start}
+use Rattle.rules.specs.Scheduling.{Partial, last_finish_on, processor_start}
+use Rattle.rules.specs.Scheduling.{crossing_size, output_size, free_from, latest, delayed, memory_start, earliest_start}
 use Rattle.rules.specs.Scheduling as Rules
-use Rattle.rules.proofs.CountLaws.{min-cong}
+use Rattle.rules.proofs.CountLaws.{min-cong, min-bound}
 use Rattle.model.specs.declared.colour.Colour.{Colour}
 use Rattle.model.specs.declared.colour.Colour.TheVariants.{Blue, Red}
 use Rattle.model.specs.Colours.{as_colour, by_colour, own}
 use Rattle.rules.specs.Limits.{max_files}
 use Rattle.needs.specs.declared.table.Need.{Need}
 use Rattle.needs.specs.Needs.{NeedBounds}
-use Rattle.model.specs.declared.job.Job.{Job}
-use Rattle.model.specs.Layout.{Entries, count_in, Processors}
-use Rattle.model.proofs.JobLaws.{last-finish-at}
+use Rattle.rules.specs.declared.Board.{Board}
+use Rattle.model.specs.Layout.{count_in, OnBoard, Processors, LastBounds, last_tick}
+use Rattle.model.proofs.LayoutLaws.{processors-on}
+use Rattle.model.proofs.JobLaws.{last-finish-on}
 use Rattle.starts.specs.declared.memory.Memory.{Memory}
 use Rattle.starts.specs.declared.memory.Memory.TheVariants.{Aware, Plain}
 use Rattle.std.specs.Prelude.{Option, None, Some, IfSome}
@@ -68,28 +69,37 @@ module _ (I : Instance) (P : Schedule) (c : Model.Colour) (m : Memory) (i : ℕ)
 abbrev at : List ℕ → ℕ → ℕ → ℕ
 at last first p = get_or last (first + p) 0
 
-module _ (j : Job) (L : Entries) (last : List ℕ) where
-  abbrev I : Instance
-  I = instance_in j
+module _ {b : Board} (f : Processors b) (last : List ℕ) where
+  -- whatever the instance on the board, and the schedule
+  module _ {I : Instance} (on : OnBoard b I) (P : Schedule) where
+    abbrev Q : Partial
+    Q = partial_on b P last
 
-  abbrev Q : Partial
-  Q = partial_by j L last
+    slot : (p q : ℕ) → q ≡ p → q < b.blue.processors + b.red.processors → get_or Q.last_finish q 0 ≡ get_or last p 0
+    slot p q e l = last-finish-on b P last q l ∙ ap (λ p. get_or last p 0) e
 
-  slot : (p q : ℕ) → q ≡ p → q < j.board.blue.processors + j.board.red.processors → get_or Q.last_finish q 0 ≡ get_or last p 0
-  slot p q e l = last-finish-at j L last q l ∙ ap (λ p. get_or last p 0) e
+    least-at : (c : Colour) → min_up_to (pred (count_in b c)) (last_finish_on I Q (as_colour c))
+        ≡ min_up_to (pred (count_in b c)) (at last (by_colour c 0 b.blue.processors))
+    least-at Blue = min-cong (pred b.blue.processors) _ _ (λ p l. slot (0 + p) p (omega arith) (omega (arith, f.blue.least)))
+    least-at Red =
+        let m = b.blue.processors in
+        min-cong (pred b.red.processors) _ _
+        (λ p l. slot (m + p) (I.blue_side.processors + p) (omega (arith, processors-on on Blue)) (omega (arith, processors-on on Blue, f.red.least)))
 
-  module _ (f : Processors j.board) where
     least-finish : (c : Colour) → processor_start I Q (as_colour c)
-        ≡ min_up_to (pred (count_in j.board c)) (at last (by_colour c 0 j.board.blue.processors))
-    unfolding processor_start instance_of
-    least-finish Blue = min-cong (pred j.board.blue.processors) _ _ (λ p l. slot (0 + p) p (omega arith) (omega (arith, f.blue.least)))
-    least-finish Red =
-        let m = j.board.blue.processors in
-        min-cong (pred j.board.red.processors) _ _ (λ p l. slot (m + p) (m + p) refl (omega (arith, f.red.least)))
+        ≡ min_up_to (pred (count_in b c)) (at last (by_colour c 0 b.blue.processors))
+    unfolding processor_start
+    least-finish c = ap (λ n. min_up_to (pred n) (last_finish_on I Q (as_colour c))) (processors-on on c) ∙ least-at c
 
-    pub least-total : (c : Colour) {first n i : ℕ} → first ≡ by_colour c 0 j.board.blue.processors → n ≡ count_in j.board c
+    pub least-total : (c : Colour) {first n i : ℕ} → first ≡ by_colour c 0 b.blue.processors → n ≡ count_in b c
         → i ≡ n → min_up_to (pred i) (at last first) ≡ processor_start I Q (as_colour c)
     least-total c x y z = rw (x, z, y, least-finish c)
+
+  -- it is no later than the first of the colour's own last finishes
+  pub least-bound : LastBounds b last → (c : Colour) {first n : ℕ} → first ≡ by_colour c 0 b.blue.processors → n ≡ count_in b c
+      → min_up_to (pred n) (at last first) ≤ last_tick
+  least-bound h Blue {first} {n} x y = omega (arith, min-bound (pred n) (at last first) 0 (omega arith), h (first + 0) (omega (arith, f.blue.least)))
+  least-bound h Red {first} {n} x y = omega (arith, min-bound (pred n) (at last first) 0 (omega arith), h (first + 0) (omega (arith, f.red.least)))
 
 -- ---- the starts together
 

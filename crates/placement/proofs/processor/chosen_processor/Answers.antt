@@ -12,12 +12,12 @@ use Rattle.placement.proofs.processor.chosen_processor.Goals as goal
 
 pub returns-clause-value : goal.returns-clause-value
 returns-clause-value c =
-    let j = c.args.job.now in
+    let b = c.args.board in
     let xs = c.args.finishes.now in
     let x = c.args.colour in
     let s = c.args.start in
     let latest = c.latest_in-latest.result in
-    λ L. chosen-found j xs x s L c.find.result c.count_in.ensures c.latest_in-latest.ensures
-    (first_from_Range _ _ _ c.find.result (λ (p : ℕ). (free_in j xs x s p && eqb (last_in j.board xs x p) latest) ≡ true)
-    (λ (p : ℕ). (free_in j xs x s p && eqb (last_in j.board xs x p) latest) ≡ false) c.find.ensures.ran
+    λ I P on. chosen-found b xs x s on P c.find.result c.count_in.ensures c.latest_in-latest.ensures
+    (first_from_Range _ _ _ c.find.result (λ (p : ℕ). (free_in b xs x s p && eqb (last_in b xs x p) latest) ≡ true)
+    (λ (p : ℕ). (free_in b xs x s p && eqb (last_in b xs x p) latest) ≡ false) c.find.ensures.ran
     (λ p q k. search (rules, tests)) (λ p q k. search (rules, tests)))

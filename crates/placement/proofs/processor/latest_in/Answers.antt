@@ -13,9 +13,9 @@ use Rattle.placement.proofs.processor.latest_in.Goals as goal
 
 pub returns : goal.returns
 returns c =
-    let j = c.args.job.now in
-    let n : ℕ = count_in j.board c.args.colour in
-    let f : ℕ → ℕ = λ p. last_in j.board c.args.finishes.now c.args.colour p in
+    let b = c.args.board in
+    let n : ℕ = count_in b c.args.colour in
+    let f : ℕ → ℕ = λ p. last_in b c.args.finishes.now c.args.colour p in
     let found = max_from_yields_List c.filter.result c.max.result c.max.ensures.ran
     (YieldsList-from_filter _ (λ x. leb x c.args.start)
     (YieldsList-at c.filter.ensures.source

@@ -7,7 +7,6 @@ use Rattle.model.specs.Colours.{as_colour}
 use Rattle.model.specs.Jobs.{partial_of, instance_in}
 use Rattle.model.proofs.JobLaws.{tasks-in}
 use Rattle.staircase.proofs.StairsLaws.{pending-placing, holds-placed}
-use Rattle.placement.proofs.PlaceLaws.{finish-bound}
 use Rattle.placement.proofs.task.place.Goals as goal
 
 pub both_memories-requires : goal.both_memories-requires
@@ -35,8 +34,6 @@ assign-requires c =
       schedule_len = c.requires.schedule_len;
       i_lt_tasks = (omega (arith, p.0.exists, tasks-in c.args.links.now.job), p.1);
       colour_bound = omega (arith, st.start);
-      finish_bound = finish-bound (instance_in c.args.links.now.job) c.requires.well_formed c.requires.placed c.args.trial.task
-          (as_colour c.args.trial.colour) c.args.trial.start p.0;
     }
 
 pub returns : goal.returns

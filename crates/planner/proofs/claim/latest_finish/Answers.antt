@@ -12,9 +12,10 @@ use Rattle.planner.proofs.claim.latest_finish.Goals as goal
 
 pub returns : goal.returns
 returns c =
-    let j = c.args.job.now in
-    let n : ℕ = j.board.blue.processors + j.board.red.processors in
-    let f : ℕ → ℕ = λ p. get_or c.args.finishes.now p 0 in
+    let b = c.args.board in
+    let last = c.args.finishes.now in
+    let n : ℕ = b.blue.processors + b.red.processors in
+    let f : ℕ → ℕ = λ p. get_or last p 0 in
     let found = max_from_yields_List c.map.result c.max.result c.max.ensures.ran
     (YieldsList-from_map _ f (YieldsList-from_range 0 n n (cc) (omega arith)) c.map.ensures.closure (λ x b q k. search (rules, tests))) in
-    λ L. c.unwrap_or.ensures ∙ max-range f n c.max.result found ∙ latest-last j L c.args.finishes.now refl
+    λ I P on. c.unwrap_or.ensures ∙ max-range f n c.max.result found ∙ latest-last on P last refl

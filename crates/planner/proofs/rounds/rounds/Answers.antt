@@ -6,14 +6,15 @@ use native.Mathlib.Omega.{arith}
 use Rattle.model.specs.declared.colour.Colour.TheVariants.{Blue, Red}
 use Rattle.rules.specs.Limits.{all_processors}
 use Rattle.model.specs.Layout.{entries_of}
-use Rattle.model.proofs.JobLaws.{limit-in}
+use Rattle.model.specs.Jobs.{instance_in, schedule_of}
+use Rattle.model.proofs.JobLaws.{on-board, limit-in}
 use Rattle.rules.specs.Model as Rules
 use Rattle.staircase.specs.Steps.{start_steps}
 use Rattle.staircase.proofs.StairsLaws.{holds-start}
 use Rattle.placement.proofs.PlaceLaws.{empty-from}
 use Rattle.planner.proofs.RunLaws.{empty-bounds, chosen-bounds}
-use Rattle.planner.specs.Outcomes.{as_planner}
-use Rattle.planner.proofs.RunLaws.{planning-start, planning-stairs, planning-stuck, planning-trial, planning-next}
+use Rattle.planner.specs.Outcomes.{as_planner, amounts}
+use Rattle.planner.proofs.RunLaws.{planning-start, planning-last, planning-stairs, planning-stuck, planning-trial, planning-next}
 use Rattle.planner.proofs.RunLaws.{planning-done, planning-complete, planning-free}
 use Rattle.planner.proofs.rounds.rounds.Goals as goal
 
@@ -43,6 +44,7 @@ round-found-requires c =
     let a = c.args in
     let p = c.loop-placed.invariant.1 in record {
       bounds = planning-stairs (as_planner a.rule) a.links.now.job c.requires.well_formed.0 c.requires.well_formed.1 p;
+      last_bounds = planning-last (as_planner a.rule) a.links.now.job c.requires.well_formed.0 c.requires.well_formed.1 p;
       order_bounds = c.requires.order_bounds;
       p_value = c.requires.p_value;
     }
@@ -91,13 +93,19 @@ loop-placed-preserved c =
 pub claim_from-claim-requires : goal.claim_from-claim-requires
 claim_from-claim-requires c =
     let a = c.args in
-    planning-free (as_planner a.rule) a.links.now.job c.requires.well_formed.0 c.requires.well_formed.1 c.loop-placed.invariant.1
+    let j = a.links.now.job in
+    let free = planning-free (as_planner a.rule) j c.requires.well_formed.0 c.requires.well_formed.1 c.loop-placed.invariant.1 in record {
+      processors = j.in_bounds.processors;
+      free_within = (rw c.steps-blue.ensures free.0, rw c.steps-red.ensures free.1);
+    }
 
 pub returns : goal.returns
 returns c =
     let a = c.args in
+    let j = a.links.now.job in
     let p = c.loop-placed.invariant.1 in record {
       schedule_after = planning-done (as_planner a.rule) a.links.now.job c.requires.well_formed.0 c.requires.well_formed.1 p c.loop-placed-test.false;
-      claims = c.claim_from-claim.ensures _ _ p.kept
+      claims = c.claim_from-claim.ensures (instance_in j) (schedule_of j c.loop-placed.schedule) _ _ (on-board j)
+          (ap amounts (sym c.steps-blue.ensures)) (ap amounts (sym c.steps-red.ensures)) p.kept
           (planning-complete (as_planner a.rule) a.links.now.job c.requires.well_formed.0 c.requires.well_formed.1 p c.loop-placed-test.false);
     }

@@ -7,6 +7,6 @@ pub returns : goal.returns
 returns c =
     let t = c.args.t.now in
     rw c.sooner.ensures
-    (file-turns (instance_in t.job) (schedule_in t) c.args.from c.hold_of-blue.result c.hold_of-red.result c.next_of_move-moving.result
-    c.next_of_holds-held.result c.args.k c.hold_of-blue.ensures.result_value c.hold_of-red.ensures.result_value c.next_of_move-moving.ensures
+    (file-turns (instance_in t.job) (schedule_in t) c.args.from c.hold_by-blue.result c.hold_by-red.result c.next_of_move-moving.result
+    c.next_of_holds-held.result c.args.k c.hold_by-blue.ensures.result_value c.hold_by-red.ensures.result_value (c.next_of_move-moving.ensures (instance_in t.job) (schedule_in t) c.args.k c.file_times-times.ensures.times_of.transfer)
     c.next_of_holds-held.ensures)

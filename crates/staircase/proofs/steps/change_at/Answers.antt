@@ -1,6 +1,7 @@
 -- `change_at` meets its contract, case by case.
 use Rattle.std.proofs.Common.{◌≡◌, ◌∙◌, ◌<◌, ◌-◌, sym, ap, arith, get_or}
-use Rattle.std.specs.List.{remove, insert}
+use Rattle.std.proofs.lemmas.Grind.{common_steps}
+use Rattle.std.specs.List.{insert}
 use Rattle.rules.specs.Staircase.{free_by}
 use Rattle.staircase.specs.declared.Step.{Step}
 use Rattle.staircase.specs.Steps.{as_steps, change_by, no_step}
@@ -23,7 +24,7 @@ returns-then-deref-p c =
     let now = c.deref-then-stands_at.ensures.0 ∙ e in
     let q = rw (c.deref-2.ensures.0 ∙ e) at (c.stands_at.ensures.yes c.if-stands_at.true) in
     let d = rw (now, before) at c.if-deref-p.true in
-    ap as_steps (c.remove.ensures.items ∙ ap (λ xs. remove xs c.args.p) e) ∙ at_equal c.requires.here later q d
+    ap as_steps (grind (arith, common_steps, e)) ∙ at_equal c.requires.here later q d
 
 pub returns-else-deref-p : goal.returns-else-deref-p
 returns-else-deref-p c =
