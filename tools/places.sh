@@ -32,7 +32,7 @@ count 'a job array' '\[u64; (layout::)?JOB\]'
 count 'a schedule array' '\[u64; (layout::)?SCHEDULE\]'
 count 'the ends of a chain' '(first|next): &|made_first|read_first'
 count 'the parts of a staircase' '\b(ticks|free|blue_ticks|blue_free|red_ticks|red_free): &'
-count 'clauses on bounds' '^ *requires.*\b(InBounds|JobInBounds|Processors|LastBounds|NeedsBounds|KeptBounds|TicksWithin|Sized|Stands|OrderBounds|Room)\b'
+count 'clauses on bounds' '^ *requires.*\b(InBounds|JobInBounds|Processors|LastBounds(On)?|NeedsBounds|KeptBounds|TicksWithin|Sized|Stands|OrderBounds|Room)\b'
 count 'clauses on chains' '^ *requires.*\bChained\b'
 count 'clauses on well-formed instances' '^ *requires.*\bWellFormed\b'
 echo "6. buffers, columns, parallel arrays"

@@ -1,10 +1,8 @@
 -- The instance and the schedules of a job, by index.
 use Prim.Native.Nat.{ℕ, ◌+◌, ◌<◌}
 use mathlib.Core.List.{List}
-use mathlib.Core.Path.{◌≡◌, refl, ap}
-use native.Mathlib.Omega.{arith}
+use mathlib.Core.Path.{◌≡◌, refl}
 use lib.ListN.{length, get_or}
-use borrow.Author.Tests.{lt-ltb}
 use Rattle.rules.specs.Model.{Schedule, task_at, task_count, file_at, file_count, limit_of, run_at, move_at, colour_of}
 use Rattle.rules.specs.Validity.{Complete}
 use Rattle.rules.specs.declared.Board.{Board}

@@ -1,7 +1,7 @@
 -- The rules' instance and schedule, made of a board and the lists and arrays of the code, and what the code asks of these.
 use Rattle.std.specs.Prelude.{ℕ, ◌+◌, ◌*◌, ◌≤◌, ◌<◌, cond, ◌≡◌, List, [], length, leb, get_or, set, map, replicate}
 use Rattle.rules.specs.Count.{list_below}
-use Rattle.rules.specs.Limits.{max_tasks, max_files, processor_counts, memory_limits, run_times, move_times, file_sizes, work_sizes, ticks}
+use Rattle.rules.specs.Limits.{max_tasks, max_files, processor_counts, all_processors, memory_limits, run_times, move_times, file_sizes, work_sizes, ticks}
 use Rattle.rules.specs.Model as Rules
 use Rattle.rules.specs.Model.{Instance, Schedule, Task, File, Run}
 use Rattle.rules.specs.BoardType.{side_from}
@@ -147,9 +147,14 @@ most_work = work_sizes.most * max_tasks
 abbrev pub most_held : ℕ
 most_held = most_files + most_work
 
--- no last finish of a processor of the board is later
-abbrev pub LastBounds : Board → List ℕ → Type 0
-LastBounds b last = Bounded last_tick (b.blue.processors + b.red.processors) (λ p. get_or last p 0)
+-- no last finish of a processor is later
+pub record LastBounds (last : List ℕ) : Type 0 where
+  pub whole : length last ≡ all_processors
+  pub each : (p : ℕ) → get_or last p 0 ≤ last_tick
+
+-- none of a processor of the board is later
+abbrev pub LastBoundsOn : Board → List ℕ → Type 0
+LastBoundsOn b last = Bounded last_tick (b.blue.processors + b.red.processors) (λ p. get_or last p 0)
 
 -- every one of n tasks is placed
 abbrev pub Placed : ℕ → Entries → Type 0

@@ -11,7 +11,7 @@ ghost use Rattle.model.specs.Layout.{OnBoard, Processors, count_in};
 ghost use Rattle.placement.specs.Slots.{slot_in, last_in};
 
 use model::colour::{Colour, by_colour};
-use model::finishes::Finishes;
+use model::finishes::AnyFinishes;
 use rules::Board;
 
 // The processors of the colour.
@@ -35,7 +35,7 @@ pub fn slot_in(board: Board, colour: Colour, p: usize) -> usize
 }
 
 // The finish of the last run placed on that processor.
-fn last_in(board: Board, finishes: &Finishes, colour: Colour, p: usize) -> u64
+fn last_in(board: Board, finishes: &AnyFinishes, colour: Colour, p: usize) -> u64
     requires processors { Processors board }
     requires p_bound { p < count_in board colour }
     ensures { result ≡ last_in board finishes.now colour p }
@@ -44,7 +44,7 @@ fn last_in(board: Board, finishes: &Finishes, colour: Colour, p: usize) -> u64
 }
 
 // The latest last finish of the colour's processors that are free by the start; 0 if there are none.
-fn latest_in(board: Board, finishes: &Finishes, colour: Colour, start: u64) -> u64
+fn latest_in(board: Board, finishes: &AnyFinishes, colour: Colour, start: u64) -> u64
     requires { Processors board }
     ensures { result ≡ max_where (count_in board colour)
         (λ p. leb (last_in board finishes.now colour p) start) (last_in board finishes.now colour) }
@@ -66,7 +66,7 @@ fn is_latest_free(finish: u64, start: u64, latest: u64) -> bool
 // The processor chosen, counted from 0 within the colour, if one is free by the start. The rules have the colour's count for none.
 pub fn chosen_processor(
     board: Board,
-    finishes: &Finishes,
+    finishes: &AnyFinishes,
     colour: Colour,
     start: u64,
 ) -> Option<usize>

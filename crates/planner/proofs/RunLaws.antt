@@ -23,7 +23,7 @@ use Rattle.model.specs.declared.colour.Colour.{Colour}
 use Rattle.model.specs.declared.colour.Colour.TheVariants.{Blue, Red}
 use Rattle.model.specs.Colours.{as_colour}
 use Rattle.model.specs.declared.job.Job.{Job}
-use Rattle.model.specs.Layout.{Entries, ScheduleBounds, LastBounds}
+use Rattle.model.specs.Layout.{Entries, ScheduleBounds, LastBoundsOn}
 use Rattle.model.specs.Jobs.{instance_in, schedule_by, partial_by}
 use Rattle.model.proofs.JobLaws.{tasks-in, files-in, limit-in, run-in, move-in, last-finish-at}
 use Rattle.std.specs.Prelude.{Option, None, Some}
@@ -66,7 +66,7 @@ module _ (j : Job) (W : WellFormed (instance_in j)) (L : Entries) (last : List �
     move_start = λ k h. omega (arith, move-in j L k h, move_bound (instance_in j) placed (partial_by j L last) S k (omega (arith, files-in j)), few);
   }
 
-  pub sound-last : LastBounds j.board last
+  pub sound-last : LastBoundsOn j.board last
   sound-last q h = omega (arith, last-finish-at j L last q h, S.last_bound q, few)
 
   pub sound-ticks : (c : RulesColour) {ss : List Step} → HoldsStairs (instance_in j) (schedule_by j L) c ss → TicksWithin ss
@@ -120,7 +120,7 @@ module _ (R : Planner) (j : Job) (W : WellFormed (instance_in j)) (A : Suited R 
 
     -- ---- what a round asks
 
-    pub planning-last : LastBounds j.board last
+    pub planning-last : LastBoundsOn j.board last
     planning-last = sound-last j W L last p.sound p.most
 
     pub planning-stairs : StairsBounds stairs

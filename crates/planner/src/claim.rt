@@ -14,12 +14,12 @@ ghost use Rattle.starts.specs.Kept.{Kept};
 ghost use Rattle.planner.specs.Outcomes.{FreeWithin, amounts};
 
 use model::claim::Claim;
-use model::finishes::Finishes;
+use model::finishes::AnyFinishes;
 use rules::Board;
 use staircase::{Step, least};
 
 // The latest of the last finishes.
-fn latest_finish(board: Board, finishes: &Finishes) -> u64
+fn latest_finish(board: Board, finishes: &AnyFinishes) -> u64
     requires { Processors board }
     ensures { (I : Instance) (P : Schedule) → OnBoard board I → result ≡
         max_below (processor_count I) (λ p. get_or (partial_on board P finishes.now).last_finish p 0) }
@@ -37,7 +37,7 @@ fn peak(limit: u64, steps: &[Step]) -> u64
 }
 
 // What a complete schedule has to claim, from what is kept beside it: the last finishes and both staircases' steps, whatever their ticks.
-pub fn claim_from(board: Board, finishes: &Finishes, blue: &[Step], red: &[Step]) -> Claim
+pub fn claim_from(board: Board, finishes: &AnyFinishes, blue: &[Step], red: &[Step]) -> Claim
     requires processors { Processors board }
     requires free_within { FreeWithin board.blue.limit (as_steps blue.now) × FreeWithin board.red.limit (as_steps red.now) }
     ensures { (I : Instance) (P : Schedule) (needs : Needs) (stairs : ByColour (List Pair)) → OnBoard board I →

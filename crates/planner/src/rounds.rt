@@ -5,7 +5,7 @@ ghost use Rattle.rules.specs.Promises.{WellFormed, Trial as IsTrial};
 ghost use Rattle.rules.specs.Scheduling.{aware, by_weight, round_of, assign, outcome};
 ghost use Rattle.model.specs.Colours.{as_colour};
 ghost use Rattle.model.specs.Jobs.{instance_in};
-ghost use Rattle.model.specs.Layout.{Entries, unplaced, WholeSchedule, LastBounds, last_start};
+ghost use Rattle.model.specs.Layout.{Entries, unplaced, WholeSchedule, LastBoundsOn, last_start};
 ghost use Rattle.model.specs.Jobs.{schedule_of, partial_of, partial_by};
 ghost use Rattle.starts.specs.Kept.{Kept, StairsBounds};
 ghost use Rattle.selection.specs.Choices.{as_round, ChoiceBounds, OrderBounds};
@@ -39,7 +39,7 @@ pub struct State {
 // One round of the planner; `order` is HEFT's list.
 fn round(rule: Rule, job: &Job, order: &[usize], state: &State) -> Round
     requires bounds { StairsBounds state.now.stairs }
-    requires last_bounds { LastBounds job.now.board state.now.finishes }
+    requires last_bounds { LastBoundsOn job.now.board state.now.finishes }
     requires order_bounds { OrderBounds (length job.now.tasks.now) order.now }
     requires p_value { order.now ≡ by_weight (instance_in job.now) (task_count (instance_in job.now)) }
     ensures result_value { (L : Entries) →
@@ -50,7 +50,7 @@ fn round(rule: Rule, job: &Job, order: &[usize], state: &State) -> Round
     let trials = Trials::new(
         memory_of(rule),
         *job,
-        &state.finishes,
+        state.finishes.as_any(),
         &state.needs,
         &state.stairs,
     );
@@ -124,7 +124,7 @@ fn rounds(rule: Rule, links: &Links, order: &[usize], schedule: &mut layout::Sch
     }
     let blue = state.stairs.blue.steps();
     let red = state.stairs.red.steps();
-    let claim = claim_from(links.job.board, &state.finishes, blue, red);
+    let claim = claim_from(links.job.board, state.finishes.as_any(), blue, red);
     Outcome {
         trials,
         claim: Ok(claim),

@@ -2,6 +2,7 @@
 #![tactic(auto)]
 
 use console::{Planner, plan, print_text, read_file, show_numbers};
+use model::finishes::Finishes;
 use std::io::Result;
 use std::rt::Files;
 
@@ -31,6 +32,16 @@ fn show_short(rt: &impl Print) -> Result<()> {
     show_numbers(rt, "75 bytes", Planner::MemHeft, answer)?;
     rt.write_all(&out)?;
     println!(rt)
+}
+
+// What a planner keeps of the processors: each has the finish that was written last, and 0 where none was.
+fn show_finishes(rt: &impl Print) -> Result<()> {
+    let mut finishes = Finishes::new();
+    finishes.set(0, 8);
+    finishes.set(1, 3);
+    finishes.set(1, 5);
+    let [first, second, third] = [finishes.of(0), finishes.of(1), finishes.of(2)];
+    println!(rt; "last finishes: {first} {second} {third}")
 }
 
 // Relays, by Order 1.
@@ -71,5 +82,6 @@ fn main(rt: HostRuntime) -> Result<()> {
     show(&rt, &err, "refused_line.sheet")?;
     show(&rt, &err, "largest.sheet")?;
     show_short(&rt)?;
-    relays(&rt, &err)
+    relays(&rt, &err)?;
+    show_finishes(&rt)
 }

@@ -9,7 +9,7 @@ ghost use Rattle.selection.specs.Choices.{as_choice, stairs_in, ChoiceBounds, Id
 
 use super::trial::earlier;
 use model::colour::{ByColour, Colour};
-use model::finishes::Finishes;
+use model::finishes::AnyFinishes;
 use model::job::Job;
 use model::trial::Trial;
 use needs::table::Needs;
@@ -47,7 +47,7 @@ impl Trials<'_> {
     ghost use Rattle.std.specs.Prelude.{true, ◌≡◌, ◌<◌};
     ghost use Rattle.rules.specs.Scheduling.{Partial, ready, both_colours};
     ghost use Rattle.model.specs.Jobs.{instance_in};
-    ghost use Rattle.model.specs.Layout.{Entries, LastBounds};
+    ghost use Rattle.model.specs.Layout.{Entries, LastBoundsOn};
     ghost use Rattle.model.specs.Jobs.{partial_by};
     ghost use Rattle.starts.specs.Kept.{Kept, StairsBounds};
     ghost use Rattle.starts.specs.Memories.{as_memory};
@@ -58,12 +58,12 @@ impl Trials<'_> {
     pub fn new<'a>(
         memory: Memory,
         job: Job<'a>,
-        finishes: &Finishes,
+        finishes: &AnyFinishes,
         needs: &'a Needs,
         stairs: &'a ByColour<Staircase>,
     ) -> Trials<'a>
         requires stairs_bounds { StairsBounds stairs.now }
-        requires last_bounds { LastBounds job.board finishes.now }
+        requires last_bounds { LastBoundsOn job.board finishes.now }
         ensures same { (result.memory ≡ memory) × (result.job ≡ job.entry) }
         ensures trials_of { (L : Entries) →
             Kept (instance_in job.entry) (partial_by job.entry L finishes.now) needs.now stairs.now →

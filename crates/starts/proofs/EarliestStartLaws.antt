@@ -20,7 +20,7 @@ use Rattle.rules.specs.Limits.{max_files}
 use Rattle.needs.specs.declared.table.Need.{Need}
 use Rattle.needs.specs.Needs.{NeedBounds}
 use Rattle.rules.specs.declared.Board.{Board}
-use Rattle.model.specs.Layout.{count_in, OnBoard, Processors, LastBounds, last_tick}
+use Rattle.model.specs.Layout.{count_in, OnBoard, Processors, LastBoundsOn, last_tick}
 use Rattle.model.proofs.LayoutLaws.{processors-on}
 use Rattle.model.proofs.JobLaws.{last-finish-on}
 use Rattle.starts.specs.declared.memory.Memory.{Memory}
@@ -96,7 +96,7 @@ module _ {b : Board} (f : Processors b) (last : List ℕ) where
     least-total c x y z = rw (x, z, y, least-finish c)
 
   -- it is no later than the first of the colour's own last finishes
-  pub least-bound : LastBounds b last → (c : Colour) {first n : ℕ} → first ≡ by_colour c 0 b.blue.processors → n ≡ count_in b c
+  pub least-bound : LastBoundsOn b last → (c : Colour) {first n : ℕ} → first ≡ by_colour c 0 b.blue.processors → n ≡ count_in b c
       → min_up_to (pred n) (at last first) ≤ last_tick
   least-bound h Blue {first} {n} x y = omega (arith, min-bound (pred n) (at last first) 0 (omega arith), h (first + 0) (omega (arith, f.blue.least)))
   least-bound h Red {first} {n} x y = omega (arith, min-bound (pred n) (at last first) 0 (omega arith), h (first + 0) (omega (arith, f.red.least)))

@@ -4,7 +4,7 @@ ghost use Rattle.rules.specs.Model.{Instance, Schedule};
 ghost use Rattle.rules.specs.Scheduling.{Partial, processor_start, earliest_start};
 ghost use Rattle.model.specs.Colours.{as_colour};
 ghost use Rattle.model.specs.Jobs.{partial_on};
-ghost use Rattle.model.specs.Layout.{OnBoard, Processors, LastBounds, last_tick, last_start};
+ghost use Rattle.model.specs.Layout.{OnBoard, Processors, LastBoundsOn, last_tick, last_start};
 ghost use Rattle.staircase.specs.Steps.{as_option, as_steps};
 ghost use Rattle.needs.specs.Needs.{NeedBounds};
 ghost use Rattle.starts.specs.Memories.{as_memory};
@@ -12,15 +12,15 @@ ghost use Rattle.starts.specs.Kept.{TicksWithin, Tried};
 
 use super::memory::{Memory, memory_start};
 use model::colour::{Colour, by_colour};
-use model::finishes::Finishes;
+use model::finishes::AnyFinishes;
 use needs::table::Need;
 use rules::Board;
 use staircase::Step;
 
 // Start 1: the least last finish of the colour's processors.
-pub fn processor_start(board: Board, finishes: &Finishes, colour: Colour) -> u64
+pub fn processor_start(board: Board, finishes: &AnyFinishes, colour: Colour) -> u64
     requires processors { Processors board }
-    requires last_bounds { LastBounds board finishes.now }
+    requires last_bounds { LastBoundsOn board finishes.now }
     ensures value { (I : Instance) (P : Schedule) → OnBoard board I → result ≡
         processor_start I (partial_on board P finishes.now) (as_colour colour) }
     ensures upper_bound { result ≤ last_tick }

@@ -10,7 +10,8 @@ returns-in-Heft-clause-result_value c = λ L k.
     let j = c.args.job.now in
     let Q = partial_by j L c.args.state.now.finishes in
     let same = c.new-trials.ensures.same in
-    let found = rw same.1 at (c.first_that_fits.ensures.result_value Q (c.new-trials.ensures.trials_of L k)) in
+    let trials = rw c.as_any.ensures.value at (c.new-trials.ensures.trials_of L (rw c.as_any.ensures.value k)) in
+    let found = rw same.1 at (c.first_that_fits.ensures.result_value Q trials) in
     heft-round (ap as_memory same.0 ∙ c.memory_of.ensures) (instance_in j) Q c.in-Heft.is c.requires.p_value found
 
 pub returns-in-MinMin-clause-result_value : goal.returns-in-MinMin-clause-result_value
@@ -18,5 +19,6 @@ returns-in-MinMin-clause-result_value c = λ L k.
     let j = c.args.job.now in
     let Q = partial_by j L c.args.state.now.finishes in
     let same = c.new-trials.ensures.same in
-    let found = rw same.1 at (c.earliest_round.ensures.result_value Q (c.new-trials.ensures.trials_of L k)) in
+    let trials = rw c.as_any.ensures.value at (c.new-trials.ensures.trials_of L (rw c.as_any.ensures.value k)) in
+    let found = rw same.1 at (c.earliest_round.ensures.result_value Q trials) in
     min-min-round (ap as_memory same.0 ∙ c.memory_of.ensures) (instance_in j) Q c.in-MinMin.is found

@@ -105,7 +105,7 @@ returns c =
     let j = a.links.now.job in
     let p = c.loop-placed.invariant.1 in record {
       schedule_after = planning-done (as_planner a.rule) a.links.now.job c.requires.well_formed.0 c.requires.well_formed.1 p c.loop-placed-test.false;
-      claims = c.claim_from-claim.ensures (instance_in j) (schedule_of j c.loop-placed.schedule) _ _ (on-board j)
-          (ap amounts (sym c.steps-blue.ensures)) (ap amounts (sym c.steps-red.ensures)) p.kept
+      claims = c.claim_from-claim.ensures (instance_in j) (schedule_of j c.loop-placed.schedule) c.loop-placed.state.needs c.loop-placed.state.stairs (on-board j)
+          (ap amounts (sym c.steps-blue.ensures)) (ap amounts (sym c.steps-red.ensures)) (rw c.as_any.ensures.value p.kept)
           (planning-complete (as_planner a.rule) a.links.now.job c.requires.well_formed.0 c.requires.well_formed.1 p c.loop-placed-test.false);
     }
